@@ -3,8 +3,8 @@
 
 .PHONY: demo build verifier quick test definitions bench
 
-# Three questions that the field knows the answers to, or with TASK=FILE ROUNDS=R a task of one's own. Where `make build` hasn't
-# left a program yet, it is run from its sources, without its proofs, in a minute or two. make itself ends with 2 for each status of
+# Four questions that the field knows the answers to, or with TASK=FILE ROUNDS=R a task of one's own. Where `make build` hasn't
+# left a program yet, it is run from its sources, without its proofs, in two or three minutes. make itself ends with 2 for each status of
 # the program but 0 (no map is 1): `tools/demo FILE R` passes it on.
 demo:
 	@tools/demo $(if $(TASK),"$(TASK)" "$(ROUNDS)")

@@ -2,8 +2,8 @@
 """argument.py TASK REPORT: a report of none as an argument that a person can read, as `wfcheck explain` writes it. REPORT may also
 be the text of an obstruction.
 
-It is written from the definitions in crates/wf_argument/specs and crates/wf_obstruction_words/specs, and shares no code with the
-program. It takes the report as it is: `second_opinion.py` says whether it holds."""
+It is written from the definitions in crates/wf_argument/specs, crates/wf_argument_words/specs and crates/wf_obstruction_words/specs,
+and shares no code with the program. It takes the report as it is: `second_opinion.py` says whether it holds."""
 import itertools
 import sys
 
@@ -11,6 +11,7 @@ from reports import Unreadable, read
 from second_opinion import faces, given, judge, point_of, seen_after, simplex_of, words_of
 
 DEEPEST, MOST_TOLD = 12, 8
+LEAST_RANGE, MOST_ITEMS, MOST_LEFT = 5, 8, 4
 OBSTRUCTION, MOST_TUPLES = "wfcheck obstruction 1\n", 24
 
 
@@ -31,6 +32,25 @@ def counted(n, noun):
     return f"{n} {noun}" if n == 1 else f"{n} {noun}s"
 
 
+def items_of(values):
+    """What a list of values tells one by one: runs of at least five values, each one more than the one before, and single values."""
+    runs = []
+    for value in values:
+        if runs and value == runs[-1][-1] + 1:
+            runs[-1].append(value)
+        else:
+            runs.append([value])
+    return [item for run in runs for item in ([run] if len(run) >= LEAST_RANGE else [[value] for value in run])]
+
+
+def values_text(values):
+    """Eight items at most, and the number of the values behind them."""
+    items = items_of(values)
+    told = [str(item[0]) if len(item) == 1 else f"{item[0]} to {item[-1]}" for item in items[:MOST_ITEMS]]
+    more = sum(map(len, items[MOST_ITEMS:]))
+    return f"{', '.join(told)} and {more} more" if more else any_of(told)
+
+
 def view_text(view, mark):
     process, rest = view
     if isinstance(rest, int):
@@ -38,24 +58,30 @@ def view_text(view, mark):
     return f"{mark}{process} saw {{{', '.join(view_text(v, mark) for v in rest)}}}"
 
 
-def loss_text(value, step):
-    return f"{value} in this case" if step is None else f"{value} [{step}]"
+def losses_text(losses):
+    """Values that a point lost, ascending, each with the step that took it. Those that follow each other and went by one step, or in
+    this case, are told together."""
+    told = []
+    for step, group in itertools.groupby(losses, lambda loss: loss[1]):
+        values = values_text([value for value, _ in group])
+        told.append(f"{values} in this case" if step is None else f"{values} [{step}]")
+    return ", ".join(told)
 
 
-def block_text(processes):
-    return "{" + " ".join(f"p{p}" for p in processes) + "}"
-
-
-def words_text(processes, words):
-    """The ordered partitions of those who take part, one a round."""
-    if not words:
-        return block_text(processes)
-    blocks = [[[p for p, b in zip(processes, word) if b == n] for n in range(max(word) + 1)] for word in words]
-    return " ; ".join("".join(map(block_text, each)) for each in blocks)
+def words_text(simplex, words, symmetric):
+    """The ordered partitions of those who take part, one a round. They stand with their inputs in the first round, or in one block
+    before it. In a symmetric task they go by their ranks among those who take part."""
+    plain = [f"#{rank}" if symmetric else f"p{process}" for rank, (process, _) in enumerate(simplex)]
+    inputs = [f"{name}={value}" for name, (_, value) in zip(plain, simplex)]
+    rounds = [inputs, *[plain] * len(words[1:])]
+    return " ; ".join(
+        "".join("{" + " ".join(name for name, b in zip(names, word) if b == block) + "}" for block in range(max(word) + 1))
+        for names, word in zip(rounds, words or [[0] * len(simplex)]))
 
 
 class Complex:
     def __init__(self, task, rounds):
+        self.symmetric = task["symmetric"]
         self.inputs = sorted({f for s in task["inputs"] for f in faces(simplex_of(s))}, key=lambda s: (len(s), s))
         allowed = {simplex_of(e["in"]): sorted({tuple(t) for t in e["out"]}) for e in task["delta"]}
         self.numbers, self.executions = {}, []
@@ -65,7 +91,7 @@ class Complex:
                 for word in words:
                     views = seen_after(views, word)
                 points = [self.numbers.setdefault(point_of(v, task["symmetric"]), len(self.numbers)) for v in views]
-                self.executions.append(([p for p, _ in simplex], points, allowed[simplex], words))
+                self.executions.append((simplex, points, allowed[simplex], words))
         self.values = sorted({v for s in task["outputs"] for _, v in s})
 
 
@@ -84,8 +110,8 @@ class Argument:
 
     def take(self, execution, process, values):
         """Takes values from a process in turn. A step ends before a value for which it would have to cite itself."""
-        processes, points, allowed, _ = self.made.executions[execution]
-        place = processes.index(process)
+        simplex, points, allowed, _ = self.made.executions[execution]
+        place = [p for p, _ in simplex].index(process)
         taken, needed, reasons = [], [], set()
         for value in values:
             tuples = [it for it in allowed if it[place] == value]
@@ -102,7 +128,7 @@ class Argument:
 
     def tell(self, execution, place, taken, needed, reasons):
         """A step that has taken values: the tuples that they need, and the losses for which none of these can be decided."""
-        processes, points, _, words = self.made.executions[execution]
+        simplex, points, _, words = self.made.executions[execution]
         point, names = points[place], row([f"v{v}" for v in points])
         if not needed:
             claim = f"no tuple at {names} has it"
@@ -111,12 +137,13 @@ class Argument:
         else:
             claim = f"{names} would be one of {len(needed)} tuples"
         by_point = itertools.groupby(sorted(reasons), lambda pair: pair[0])
-        told = [f"v{v} is not " + ", ".join(loss_text(value, self.lost[v, value]) for _, value in pairs) for v, pairs in by_point]
+        told = [f"v{v} is not {losses_text([(value, self.lost[v, value]) for _, value in pairs])}" for v, pairs in by_point]
         because = ", but " + ", and ".join(told) if told else ""
         left = self.left(point)
-        rest = f" So v{point} is {left[0]}." if len(left) == 1 else ""
-        where = f"in execution {execution}, {words_text(processes, words)}"
-        self.say(f"{self.step}. v{point} is not {any_of([str(x) for x in taken])}: {where}, {claim}{because}.{rest}")
+        short = left and (len(left) <= MOST_LEFT or len(items_of(left)) == 1)
+        rest = f" So v{point} is {values_text(left)}." if short else ""
+        where = f"in execution {execution}, {words_text(simplex, words, self.made.symmetric)}"
+        self.say(f"{self.step}. v{point} is not {values_text(taken)}: {where}, {claim}{because}.{rest}")
         self.step += 1
 
     def enter(self):
@@ -132,7 +159,7 @@ class Argument:
 
     def split(self, point):
         left = self.left(point)
-        self.say(f"{self.step}. v{point} is {any_of([str(x) for x in left])}.")
+        self.say(f"{self.step}. v{point} is {values_text(left)}.")
         self.step += 1
         self.later += [(point, value, self.depth + 1, dict(self.lost)) for value in reversed(left)]
         self.enter()
@@ -208,9 +235,9 @@ def obstruction_text_of(task, text):
              " differ by an odd number.\n")
     return "".join([
         f"No decision map after any number of rounds: a count modulo {modulus}.\n\n",
-        f"Give each point any value.{symmetric} Count the executions{','.join(lines)}.\n",
+        f"Give each point any value of an output.{symmetric} Count the executions{','.join(lines)}.\n",
         signs if modulus > 2 else "",
-        "The task allows none of these decisions. But whatever values the points have, the count is ",
+        "The task allows none of these decisions. But whichever of these values the points have, the count is ",
         f"{header['sum']} modulo {modulus}. So it is not 0.\n",
     ])
 

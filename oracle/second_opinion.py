@@ -2,9 +2,9 @@
 """second_opinion.py TASK REPORT: whether the report about the task holds, straight from the definitions.
 
 It shares nothing with the program: it is here to be read in ten minutes, and is slow. The task is read by task_file.py, and the report's
-text by reports.py. It says `holds: map`, `holds: least` or `holds: none`, or says in words what is wrong, as with a report of none
-that has no lines, or why it can't read the report, and ends with status 1. Whether a map is the least one it looks at where the
-report has the lines for it.
+text by reports.py. It says `holds: map`, `holds: least` or `holds: none`, and ends with status 0. Or it says in words what is wrong, as
+with a report of none that has no lines, or why it can't read the report, and ends with status 1. The status is 2 where a file can't be
+opened, or the task is refused. Whether a map is the least one it looks at where the report has the lines for it.
 
 The report may be an obstruction, which obstructions.py judges. Then it says `holds: none at every number of rounds`, or what is
 wrong. It also gives random values to the points after 0, 1 and 2 rounds, and counts the executions as the obstruction says, if there
@@ -141,7 +141,7 @@ def executions_of(task, rounds):
 
 
 def wrong_count(task, found):
-    """Tries what an obstruction says: whatever values the points have, the signed executions have the sum of their tuples' weights."""
+    """Tries what an obstruction says: whichever of these values the points have, the signed executions have the sum of their tuples' weights."""
     inputs, values, choose = inputs_of(task), obstructions.values_of(task), random.Random(1)
     weights = {(inputs[it.simplex], it.values): it.weight for it in found.tuples}
     for rounds in range(3):
@@ -182,7 +182,7 @@ def judge(task, text):
 
 
 def given(name, about):
-    """The task and the report's text that a script of this name is asked about. Where they can't be read, that is the end."""
+    """The task and the report's text that a script of this name is asked about. Where they can't be read, that is the end, with status 2."""
     words = argparse.ArgumentParser(
         description=about, formatter_class=argparse.RawDescriptionHelpFormatter, usage=f"{name} TASK REPORT")
     words.add_argument("task")
@@ -192,9 +192,10 @@ def given(name, about):
         with open(asked.task, "rb") as task_text, open(asked.report, "rb") as report_file:
             return task_file.read(task_text.read(task_file.LONGEST + 1))[0], report_file.read(reports.LONGEST + 1).decode("ascii", "replace")
     except OSError as error:
-        sys.exit(f"{name}: {error}")
+        print(f"{name}: {error}", file=sys.stderr)
     except task_file.Refused as refused:
-        sys.exit(f"the task is refused, {refused.line}: {refused.words}")
+        print(f"the task is refused, {refused.line}: {refused.words}", file=sys.stderr)
+    sys.exit(2)
 
 
 def main():

@@ -1,5 +1,5 @@
 #!/usr/bin/env python3
-"""lint.py TASK.json: where a task file is refused, in words; or what in it most likely is a slip.
+"""lint.py [--all] TASK.json: where a task file is refused, in words; or what in it most likely is a slip.
 
 A refused file has the number that `wfcheck` would answer, and the place that it means: which simplex, which key, which item.
 Of a file that is accepted it names what the definitions allow, but hardly anybody means, as a `slip`:
@@ -11,18 +11,24 @@ Of a file that is accepted it names what the definitions allow, but hardly anybo
 and as a `note` what many tasks of the literature have on purpose:
 
   - a value list that those who take part may decide, but no larger simplex can go on from: no map ever uses it, since the
-    others may all come later (the rules are not monotone there).
+    others may all come later (the rules are not monotone there). A note is about one larger simplex, and names the first such
+    face. Ten notes are told. With `--all` all are, each with all its faces.
 
-The status is 0 where there is no slip, 1 where there is one, 2 where the file is refused or can't be read."""
+The status is 0 where there is no slip, 1 where there is one, 2 where the file is refused or can't be read. Where a pipe is closed
+before all is told, the signal SIGPIPE ends it, which a shell has as 141."""
 import argparse
 import collections
 import json
 import pathlib
+import signal
 import sys
 
 sys.dont_write_bytecode = True
 sys.path.insert(0, str(pathlib.Path(__file__).resolve().parent.parent / "oracle"))
 from task_file import LONGEST, Refused, complex_of, faces, read, shown, simplex_of  # noqa: E402
+
+# how many notes are told without --all
+TOLD = 10
 
 
 def written_twice(text):
@@ -46,18 +52,21 @@ def naming(inputs):
     return lambda s: f"input simplex {number[s]}, {shown(s)},"
 
 
-def notes(value, rules):
-    """What many tasks have on purpose."""
+def notes(value, rules, most):
+    """What many tasks have on purpose: of each simplex the faces with value lists from which it can't go on, so many of them, or all if None."""
     inputs = complex_of(value["inputs"])
     named = naming(inputs)
-    for s in inputs:
+    for s in filter(rules.get, inputs):
+        found = []
         for face in faces(s)[:-1]:
             at = [s.index(v) for v in face]
-            gone_on = {tuple(t[i] for i in at) for t in rules[s]}
-            lost = sorted(rules[face] - gone_on)
-            if rules[s] and lost:
-                more = f", and {len(lost) - 1} more" if len(lost) > 1 else ""
-                yield f"{named(face)} allows {shown(lost[0])}{more}, from which {named(s)} can't go on"
+            lost = sorted(rules[face] - {tuple(t[i] for i in at) for t in rules[s]})
+            more = f" and {len(lost) - 1} more" if len(lost) > 1 else ""
+            found += [f"{shown(lost[0])}{more} of {shown(face)}"] if lost else []
+        told = found[:most]
+        told += [f"{len(found) - len(told)} more of its faces"] if told != found else []
+        if told:
+            yield f"{named(s)} can't go on from {', nor from '.join(told)}"
 
 
 def slips(value, rules):
@@ -89,10 +98,12 @@ def slips(value, rules):
 
 def main():
     words = argparse.ArgumentParser(
-        description=__doc__, formatter_class=argparse.RawDescriptionHelpFormatter, usage="lint.py TASK.json")
+        description=__doc__, formatter_class=argparse.RawDescriptionHelpFormatter, usage="lint.py [--all] TASK.json")
+    words.add_argument("--all", action="store_true", help=f"tells all notes, and not {TOLD} alone, each with all its faces")
     words.add_argument("task")
+    asked = words.parse_args()
     try:
-        with open(words.parse_args().task, "rb") as file:
+        with open(asked.task, "rb") as file:
             text = file.read(LONGEST + 1)
         value, rules = read(text)
     except OSError as error:
@@ -103,10 +114,14 @@ def main():
         return 2
     twice = (f'the key "{key}" is written twice in one place, and the last value counts' for key in written_twice(text))
     found = [f"slip: {it}" for it in [*twice, *slips(value, rules)]]
-    said = [*found, *(f"note: {it}" for it in notes(value, rules))]
-    print("\n".join(said) or "nothing to say")
+    noted = [f"note: {it}" for it in notes(value, rules, None if asked.all else 1)]
+    told = noted if asked.all else noted[:TOLD]
+    left = [f".. and {len(noted) - len(told)} more (--all)"] if told != noted else []
+    print("\n".join([*found, *told, *left]) or "nothing to say")
     return 1 if found else 0
 
 
 if __name__ == "__main__":
+    # Python's own status for a closed pipe would mean a slip
+    signal.signal(signal.SIGPIPE, signal.SIG_DFL)
     sys.exit(main())

@@ -72,14 +72,14 @@ _wfcheck() {
     esac
     case ${COMP_WORDS[1]} in
         solve) words="--rounds --workers --verdict --least --account --progress --branch --help" ;;
-        verify) words="--task --rounds --branch --help" ;;
+        verify) words="--task --rounds --branch --long --help" ;;
         views) words="--rounds --help" ;;
         points) words="--rounds --task --help" ;;
         branches) words="--rounds --help" ;;
         join) words="--task --rounds --help" ;;
         cnf) words="--rounds --branch --help" ;;
         model) words="--task --rounds --help" ;;
-        proof) words="--task --rounds --branch --lrat --help" ;;
+        proof) words="--task --rounds --branch --lrat --progress --help" ;;
         trim) words="--task --help" ;;
         explain) words="--task --help" ;;
         lift) words="--task --rounds --help" ;;

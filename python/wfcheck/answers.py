@@ -68,10 +68,12 @@ class Refutation:
 
 @dataclasses.dataclass(frozen=True)
 class Proof:
-    """There is no decision map after so many rounds, by a SAT solver's clausal proof, which `wfcheck proof` accepts."""
+    """There is no decision map after so many rounds, by a SAT solver's clausal proof, which `wfcheck proof` accepts: with hints (LRAT), or
+    without."""
     task: Task = dataclasses.field(repr=False)
     rounds: int
     text: str = dataclasses.field(repr=False)
+    has_hints: bool = False
 
 
 @dataclasses.dataclass(frozen=True)

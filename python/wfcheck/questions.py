@@ -8,13 +8,13 @@ from typing import Dict, List, Optional, Union
 
 from .answers import Answer, Map, Obstruction, Proof, Refutation, obstruction_of, report_of, text_of
 from .running import ANSWERS, VARIABLE, NoAnswer, Ran, Word, program, refusal, run
-from .tasks import Task, write
+from .tasks import Mistake, Task, write
 from .views import View, points_of
 
 FOLDER = pathlib.Path(__file__).resolve().parent.parent
 # what the names of files end in that `ask --keep` leaves: an obstruction, a proof, and a report of the search, of a solver's model, or of a
 # map of fewer rounds
-READ = OBSTRUCTION, PROOF = ".obstruction", ".drat"
+READ = OBSTRUCTION, PROOF, HINTED = ".obstruction", ".drat", ".lrat"
 REPORTS = ".report", ".map", ".lifted"
 
 
@@ -63,19 +63,29 @@ def verify(task: Task, answer: Union[Answer, str], rounds: Optional[int] = None,
     """What the program accepts an answer as, a report or an obstruction, or the text of one: as `accepted none at 2 rounds`.
 
     With a number of rounds an answer about others is refused. Raises Refused if the answer does not hold."""
+    asked: List[Word]
     if isinstance(answer, Proof):
-        return about(task, ["proof", "--rounds", answer.rounds if rounds is None else rounds], answer.text, seconds).written.rstrip("\n")
-    asked: List[Word] = ["verify"] if rounds is None else ["verify", "--rounds", rounds]
-    return about(task, asked, text_of(answer), seconds).written.rstrip("\n")
+        asked = ["proof", "--rounds", answer.rounds if rounds is None else rounds, *["--lrat"] * answer.has_hints]
+        return about(task, asked, answer.text, seconds).written.rstrip("\n")
+    text = text_of(answer)
+    asked = ["verify"] if rounds is None else ["verify", "--rounds", rounds]
+    asked += ["--long"] * (not text.startswith("wfcheck obstruction "))
+    return about(task, asked, text, seconds).written.rstrip("\n")
 
 
 def explain(task: Task, answer: Union[Map, Refutation, Obstruction, str], *, seconds: Optional[float] = None) -> str:
-    """Why there is no map, in words and by the steps that are needed; of a map, what it decides. Raises Refused if it does not hold."""
+    """Why there is no map, in words and by the steps that are needed; of a map, what it decides.
+
+    Raises Refused if it does not hold, and Mistake for a solver's proof, which has no argument in words."""
+    if isinstance(answer, Proof):
+        raise Mistake("a solver's proof has no argument in words: ask for a refutation by `solve`")
     return about(task, ["explain"], text_of(answer), seconds).written
 
 
 def trim(task: Task, refutation: Refutation, *, seconds: Optional[float] = None) -> Refutation:
-    """A refutation with the steps that are needed."""
+    """A refutation with the steps that are needed. Raises Mistake for anything else: only a refutation has steps to leave out."""
+    if not isinstance(refutation, Refutation):
+        raise Mistake(f"a {type(refutation).__name__} has no steps that could be left out: `trim` takes a Refutation")
     report = about(task, ["trim"], refutation.report, seconds).written
     return Refutation(task, refutation.rounds, report_of(report).steps, report)
 
@@ -94,8 +104,8 @@ def obstruction(task: Task, modulus: Optional[int] = None, *, seconds: Optional[
 def decide(task: Task, rounds: int, *, solver: Optional[str] = None, seconds: float = 60, use_obstructions: bool = True) -> Answer:
     """The first answer that is accepted, as `ask` finds it: an obstruction first, and then the search and a SAT solver side by side.
 
-    `solver` is what `ask --solver` takes; without it the first is asked that is on the path. The obstruction has so many seconds, and so
-    have the search and the solver together.
+    `solver` is what `ask --solver` takes; without it the first is asked that is on the path. The obstruction has so many seconds, 60 if
+    no other number is given, and so have the search and the solver together.
 
     Raises Refused, NoProgram, and NoAnswer if nobody had an answer in time."""
     with tempfile.TemporaryDirectory() as made:
@@ -122,8 +132,9 @@ def certified(task: Task, rounds: int, files: Dict[str, pathlib.Path]) -> Answer
     texts = {kind: files[kind].read_text(encoding="utf-8", errors="replace") for kind in (*READ, *REPORTS) if kind in files}
     if OBSTRUCTION in texts:
         return obstruction_of(task, texts[OBSTRUCTION])
-    if PROOF in texts:
-        return Proof(task, rounds, texts[PROOF])
+    for kind in (HINTED, PROOF):
+        if kind in texts:
+            return Proof(task, rounds, texts[kind], kind == HINTED)
     report = next((texts[kind] for kind in REPORTS if kind in texts), None)
     if report is None:
         raise NoAnswer(f"{task.name} after {rounds} rounds: no certificate is kept")

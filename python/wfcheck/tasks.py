@@ -11,7 +11,7 @@ import itertools
 import json
 import os
 import pathlib
-from typing import Any, Callable, Dict, Iterable, List, Mapping, NamedTuple, Optional, Sequence, Set, Tuple, Union
+from typing import AbstractSet, Any, Callable, Dict, Iterable, Iterator, List, Mapping, NamedTuple, Optional, Sequence, Set, Tuple, Union
 
 # those that take part with a value each, by ascending process
 Simplex = Tuple[Tuple[int, int], ...]
@@ -68,23 +68,24 @@ def simplices(listed: Iterable[Sequence[Tuple[int, int]]]) -> List[Simplex]:
 
 
 def task(name: str, processes: int, inputs: Iterable[Input], legal: Legal, values: Iterable[int], symmetric: bool = False,
-         first_block: Optional[int] = None) -> Task:
+         first_block: Optional[int] = None, partial: Optional[Legal] = None) -> Task:
     """The task in which some processes begin as one of the inputs says, and may decide what is legal.
 
     An input is one value for each process, in their order, or a dictionary where some take no part. Each part of an input
     is one too, of processes that alone take part. `legal(start, end)` is asked for every choice of the values by those that
-    take part. Outputs are whatever is legal somewhere. In a symmetric task a process doesn't know its name. With a first block
+    take part. If there is a `partial(start, end)`, it is asked first, of the values that the first few of them decide: where it says
+    no, nothing that begins so is legal, and `legal` is not asked. Outputs are whatever is legal somewhere. In a symmetric task a process doesn't know its name. With a first block
     the file has version 2, and its values may be up to 255: in every round the first block has at least so many of those that
     take part, or all of them; 1 leaves all words.
 
     Raises Mistake where there is no such task, and where its file would be too large to be read."""
     try:
-        listed = [tuple(dict(each if isinstance(each, Mapping) else enumerate(each)).items()) for each in inputs]
+        listed = [pairs_of(name, processes, each) for each in inputs]
         several = set(values)
     except TypeError as error:
         raise Mistake(f"{name}: inputs are a list of lists or dictionaries, and values a list of numbers ({error})") from error
     judge(name, processes, listed, several, first_block)
-    rules = {start: tuples(name, start, legal, several) for start in simplices(listed)}
+    rules = {start: tuples(name, start, legal, choices(name, start, several, partial)) for start in simplices(listed)}
     if not any(rules.values()):
         raise Mistake(f"{name}: the predicate allows nothing, whatever the processes begin with")
     whole: Dict[str, Any] = {"version": 1} if first_block is None else {"version": 2, "first_block": first_block}
@@ -92,6 +93,18 @@ def task(name: str, processes: int, inputs: Iterable[Input], legal: Legal, value
     text = text_of({**whole, "processes": processes, "symmetric": symmetric}, rules, ends)
     judge_sizes(name, rules, text)
     return Task(name, text)
+
+
+def pairs_of(name: str, processes: int, given: Input) -> Simplex:
+    """An input, as each process with its value."""
+    if isinstance(given, AbstractSet):
+        raise Mistake(f"{name}: the input {given!r} is a set, which has no order: an input is a list, or a dictionary by process")
+    if isinstance(given, Mapping):
+        return tuple(given.items())
+    values = [*given]
+    if type(processes) is int and 0 < len(values) < processes <= MOST_PROCESSES:
+        raise Mistake(f"{name}: the input {given!r} has {len(values)} of {processes} values: a dictionary by process says who takes no part")
+    return tuple(enumerate(values))
 
 
 def text_of(whole: Dict[str, Any], rules: Dict[Simplex, List[Tuple[int, ...]]], ends: Iterable[Simplex]) -> str:
@@ -167,11 +180,27 @@ def judge_sizes(name: str, rules: Dict[Simplex, List[Tuple[int, ...]]], text: st
         raise Mistake(f"{name}: the file has more than {LONGEST} bytes")
 
 
-def tuples(name: str, start: Simplex, legal: Legal, values: Set[int]) -> List[Tuple[int, ...]]:
-    """The values that those who take part may decide, in the order of the processes."""
+def choices(name: str, start: Simplex, values: Set[int], partial: Optional[Legal]) -> Iterator[Tuple[int, ...]]:
+    """Every choice of a value by each of those who take part, in order, but for those that begin as no legal choice does."""
+    processes, ordered = [p for p, _ in start], sorted(values)
+
+    def longer(begun: Tuple[int, ...]) -> Iterator[Tuple[int, ...]]:
+        """Those that begin so."""
+        if len(begun) == len(processes):
+            yield begun
+            return
+        for more in ((*begun, value) for value in ordered):
+            if partial is None or len(more) == len(processes) or is_legal(name, partial, dict(start), dict(zip(processes, more))):
+                yield from longer(more)
+
+    return longer(())
+
+
+def tuples(name: str, start: Simplex, legal: Legal, offered: Iterable[Tuple[int, ...]]) -> List[Tuple[int, ...]]:
+    """Those of the choices that are legal: the values that those who take part may decide, in the order of the processes."""
     processes = [p for p, _ in start]
     found = []
-    for choice in itertools.product(sorted(values), repeat=len(processes)):
+    for choice in offered:
         if is_legal(name, legal, dict(start), dict(zip(processes, choice))):
             found.append(choice)
         if len(found) > MOST_TUPLES:

@@ -69,12 +69,19 @@ verify_branch branch rows =
     needed piece.Task (task_of rows) (λ path. given (mistake.Needs piece.Branch piece.Rounds) (rounds_of rows) (λ rounds.
     this_job_on path (λ task. job.VerifyBranch task rounds branch)))
 
-abbrev pub verify_in : Option ℕ → List Row → Asked Job
-verify_in None rows = verify_whole rows
-verify_in (Some branch) rows = verify_branch branch rows
+-- a report of any length is checked
+abbrev pub verify_long : List Row → Asked Job
+verify_long rows = needed piece.Task (task_of rows) (λ path. this_job_on path (λ task. job.VerifyLong task (rounds_of rows)))
+
+-- by `--branch` and `--long`, of which one at most may be given
+abbrev pub verify_in : Option ℕ → Bool → List Row → Asked Job
+verify_in None false rows = verify_whole rows
+verify_in None true rows = verify_long rows
+verify_in (Some branch) false rows = verify_branch branch rows
+verify_in (Some branch) true rows = no_job (mistake.Beside piece.Long piece.Branch)
 
 abbrev pub verify_asked : List Row → Asked Job
-verify_asked rows = verify_in (branch_of rows) rows
+verify_asked rows = verify_in (branch_of rows) (has_flag (codes "long") rows) rows
 
 abbrev pub views_asked : List Row → Asked Job
 views_asked rows = needed piece.Rounds (rounds_of rows) (λ rounds. this_job (job.Views rounds))
@@ -106,7 +113,7 @@ model_asked rows =
 abbrev pub proof_asked : List Row → Asked Job
 proof_asked rows =
     needed piece.Task (task_of rows) (λ path. needed piece.Rounds (rounds_of rows) (λ rounds. this_job_on path (λ task. job.Proof task rounds
-    (branch_of rows) (has_flag (codes "lrat") rows))))
+    (branch_of rows) (has_flag (codes "lrat") rows) (has_flag (codes "progress") rows))))
 
 abbrev pub trim_asked : List Row → Asked Job
 trim_asked rows = needed piece.Task (task_of rows) (λ path. this_job_on path (λ task. job.Trim task))

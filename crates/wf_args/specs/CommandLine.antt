@@ -42,7 +42,7 @@ solve = subcommand (codes "solve")
     ∷ flag_option (codes "account") ∷ flag_option (codes "progress") ∷ branch_option ∷ [])
 
 abbrev pub verify : Shape
-verify = subcommand (codes "verify") (required task_option ∷ number_option (codes "rounds") ∷ branch_option ∷ [])
+verify = subcommand (codes "verify") (required task_option ∷ number_option (codes "rounds") ∷ branch_option ∷ flag_option (codes "long") ∷ [])
 
 abbrev pub views : Shape
 views = subcommand (codes "views") (rounds ∷ [])
@@ -63,7 +63,7 @@ abbrev pub model : Shape
 model = subcommand (codes "model") (required task_option ∷ rounds ∷ [])
 
 abbrev pub proof : Shape
-proof = subcommand (codes "proof") (required task_option ∷ rounds ∷ branch_option ∷ flag_option (codes "lrat") ∷ [])
+proof = subcommand (codes "proof") (required task_option ∷ rounds ∷ branch_option ∷ flag_option (codes "lrat") ∷ flag_option (codes "progress") ∷ [])
 
 abbrev pub trim : Shape
 trim = subcommand (codes "trim") (required task_option ∷ [])

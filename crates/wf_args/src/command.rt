@@ -15,15 +15,19 @@ use wf_words::{MOST_WORKERS, VERSION};
 
 /// What the help of `preset` says of the kinds.
 const KINDS: &str =
-    "Kinds:\n  set-agreement  Each process decides the input of some participant, and at most K different values are\n                 decided (k-set agreement: Chaudhuri 1993)\n  renaming       The processes decide different names (Attiya, Bar-Noy, Dolev, Peleg and Reischuk 1990)";
+    "Kinds:\n  set-agreement  Each process decides the input of some participant, and at most K different values are\n                 decided (k-set agreement: Chaudhuri 1993)\n  renaming       The processes decide different names (Attiya, Bar-Noy, Dolev, Peleg and Reischuk 1990)\n\nExample: wfcheck preset renaming --processes 3 --names 5 > mine.json";
 
 /// What the help of `proof` says of the texts.
 const PROOFS: &str =
-    "The proof is DRAT as text, as CaDiCaL and Kissat write it with --no-binary: lemmas and deletions. Each lemma has to\nfollow by unit propagation from the formula and the lemmas before it, or be RAT on its first literal, and the\ncontradiction has to follow at last. Then the task has no decision map after these rounds, whatever the solver did,\nand the answer is: accepted none at R rounds. A proof is refused if a lemma is neither, or if it ends too soon.\nWith --lrat the proof is LRAT as text: the hints of each lemma have to lead to a conflict.";
+    "The proof is DRAT as text, as CaDiCaL and Kissat write it with --no-binary: lemmas and deletions. Each lemma has to\nfollow by unit propagation from the formula and the lemmas before it, or be RAT on its first literal, and the\ncontradiction has to follow at last. Then the task has no decision map after these rounds, whatever the solver did,\nand the answer is: accepted none at R rounds. A proof is refused if a lemma is neither, or if it ends too soon.\nWith --lrat the proof is LRAT as text: the hints of each lemma have to lead to a conflict.\nExample: wfcheck proof --task gallery/tasks/loop-hollow.json --rounds 2 < gallery/answers/loop-hollow-2.drat";
 
 /// What the help of `obstruction` says of the answers.
 const OBSTRUCTIONS: &str =
-    "Status 0: an obstruction is written; verify accepts it, and explain tells it in words.\nStatus 1: none was found, and standard error tells which moduli were tried. The task may still have no decision map.\nExample: wfcheck obstruction < gallery/tasks/set-agreement-3-2.json";
+    "Status 0: an obstruction is written; verify accepts it, and explain tells it in words.\nStatus 1: none was found, and standard error tells which moduli were tried. The task may still have no decision map.\nExample: wfcheck obstruction < gallery/tasks/consensus-2.json > never.txt";
+
+/// What the help of the program says behind its commands.
+const MORE: &str =
+    "docs/FORMAT.md says what each refusal means. tools/lint.py FILE says in words why a task is refused.\nExample: wfcheck solve --rounds 1 --workers 2 < examples/path-3.json > map.txt";
 
 /// The number of rounds, which may not be left out.
 fn rounds<'a>(alloc: Global) -> Arg<'a>
@@ -49,11 +53,11 @@ fn workers<'a>(alloc: Global) -> Arg<'a>
     .value_parser(value_parser!(u32).range(1..=most))
 }
 
-/// A subcommand without options, and what help says of it.
-fn subcommand<'a>(alloc: Global, name: &'a str, about: &'a str) -> Command<'a>
+/// A subcommand without options, and what help says of it, before its options and behind them.
+fn subcommand<'a>(alloc: Global, name: &'a str, about: &'a str, behind: &'a str) -> Command<'a>
     ensures { IsLeaf (line.subcommand name.now []) result }
 {
-    Command::new(alloc, name).about(about)
+    Command::new(alloc, name).about(about).after_help(behind)
 }
 
 fn solve_command<'a>(alloc: Global) -> Result<Command<'a>, AllocError>
@@ -63,6 +67,7 @@ fn solve_command<'a>(alloc: Global) -> Result<Command<'a>, AllocError>
         alloc,
         "solve",
         "Read a task on standard input, and write its least decision map, or a refutation that there is none",
+        "Example: wfcheck solve --rounds 1 --workers 2 < examples/path-3.json > map.txt",
     )
     .arg(rounds(alloc));
     let command = taking(command, workers(alloc));
@@ -108,6 +113,7 @@ fn verify_command<'a>(alloc: Global) -> Result<Command<'a>, AllocError>
         alloc,
         "verify",
         "Read a report or an obstruction on standard input, and check it without a search",
+        "Example: wfcheck verify --task examples/path-3.json < map.txt",
     )
     .arg(task(alloc));
     let command = taking(
@@ -118,7 +124,15 @@ fn verify_command<'a>(alloc: Global) -> Result<Command<'a>, AllocError>
             "How many rounds the report is to be for: one for others is refused, and the answer tells them; an obstruction is for all",
         ),
     );
-    taking(command, branch(alloc))
+    let command = taking(command, branch(alloc));
+    taking(
+        command,
+        flag(
+            alloc,
+            "long",
+            "Check a report while it is read, whatever its length; not an obstruction, and not beside --branch",
+        ),
+    )
 }
 
 fn views_command<'a>(alloc: Global) -> Result<Command<'a>, AllocError>
@@ -128,6 +142,7 @@ fn views_command<'a>(alloc: Global) -> Result<Command<'a>, AllocError>
         alloc,
         "views",
         "Read a task on standard input, and list the points of its protocol complex by first appearance",
+        "Example: wfcheck views --rounds 1 < examples/path-3.json",
     )
     .arg(rounds(alloc))
 }
@@ -139,6 +154,7 @@ fn points_command<'a>(alloc: Global) -> Result<Command<'a>, AllocError>
         alloc,
         "points",
         "Tell in words who saw what at each point of a task's protocol complex, with --rounds, or with --task also what a report decides there",
+        "Example: wfcheck points --task examples/path-3.json < map.txt",
     )
     .arg(optional(
         alloc,
@@ -172,6 +188,7 @@ fn branches_command<'a>(alloc: Global) -> Result<Command<'a>, AllocError>
         alloc,
         "branches",
         "Read a task on standard input, and list the branches into which its question is cut, each of which can be decided by itself",
+        "Example: wfcheck branches --rounds 1 < examples/path-3.json",
     )
     .arg(rounds(alloc))
 }
@@ -183,6 +200,7 @@ fn join_command<'a>(alloc: Global) -> Result<Command<'a>, AllocError>
         alloc,
         "join",
         "Read the parts of an answer on standard input, one behind another in the order of the branches, check them, and write the report of the whole question",
+        "Example: wfcheck solve --rounds 1 --workers 1 --branch 0 < examples/path-3.json | wfcheck join --task examples/path-3.json --rounds 1",
     )
     .arg(task(alloc));
     taking(command, rounds(alloc))
@@ -195,6 +213,7 @@ fn cnf_command<'a>(alloc: Global) -> Result<Command<'a>, AllocError>
         alloc,
         "cnf",
         "Read a task on standard input, and write for SAT solvers the question whether it has a decision map",
+        "Example: wfcheck cnf --rounds 1 < examples/path-3.json > question.cnf",
     )
     .arg(rounds(alloc));
     taking(command, branch(alloc))
@@ -207,6 +226,7 @@ fn model_command<'a>(alloc: Global) -> Result<Command<'a>, AllocError>
         alloc,
         "model",
         "Read what a SAT solver says of the question that cnf writes, and report the decision map of its model",
+        "Example: wfcheck model --task gallery/tasks/loop-sock.json --rounds 2 < gallery/answers/loop-sock-2.model",
     )
     .arg(task(alloc));
     taking(command, rounds(alloc))
@@ -219,17 +239,25 @@ fn proof_command<'a>(alloc: Global) -> Result<Command<'a>, AllocError>
         alloc,
         "proof",
         "Read a SAT solver's proof that the question that cnf writes has no model, and check it: there is no decision map",
+        PROOFS,
     )
-    .after_help(PROOFS)
     .arg(task(alloc));
     let command = taking(command, rounds(alloc));
     let command = taking(command, branch(alloc));
-    taking(
+    let command = taking(
         command,
         flag(
             alloc,
             "lrat",
             "The proof has hints (LRAT), as CaDiCaL writes it with --lrat --no-binary",
+        ),
+    );
+    taking(
+        command,
+        flag(
+            alloc,
+            "progress",
+            "Tell on standard error now and then which line of the proof is reached",
         ),
     )
 }
@@ -241,6 +269,7 @@ fn trim_command<'a>(alloc: Global) -> Result<Command<'a>, AllocError>
         alloc,
         "trim",
         "Read a report on standard input, check it, and write it with the lines that are needed",
+        "Example: wfcheck solve --rounds 1 --workers 1 < gallery/tasks/consensus-2.json | wfcheck trim --task gallery/tasks/consensus-2.json",
     )
     .arg(task(alloc))
 }
@@ -252,6 +281,7 @@ fn explain_command<'a>(alloc: Global) -> Result<Command<'a>, AllocError>
         alloc,
         "explain",
         "Read a report or an obstruction on standard input, check it, and write in words why there is no decision map, or what its map decides",
+        "Example: wfcheck explain --task gallery/tasks/consensus-2.json < gallery/answers/consensus-2.obstruction",
     )
     .arg(task(alloc))
 }
@@ -263,6 +293,7 @@ fn lift_command<'a>(alloc: Global) -> Result<Command<'a>, AllocError>
         alloc,
         "lift",
         "Read a report of a map on standard input, check it, and write the map for one round more, or for R rounds",
+        "Example: wfcheck lift --task examples/path-3.json < map.txt",
     )
     .arg(task(alloc));
     taking(
@@ -282,6 +313,7 @@ fn executions_command<'a>(alloc: Global) -> Result<Command<'a>, AllocError>
         alloc,
         "executions",
         "Read a task on standard input, and list the executions of its protocol complex: who went in which block, round by round, and which points stand there",
+        "Example: wfcheck executions --rounds 1 < examples/path-3.json",
     )
     .arg(rounds(alloc))
 }
@@ -307,8 +339,8 @@ fn obstruction_command<'a>(alloc: Global) -> Result<Command<'a>, AllocError>
         alloc,
         "obstruction",
         "Read a task on standard input, and look for an obstruction: a short certificate that it has no decision map after any number of rounds",
+        OBSTRUCTIONS,
     )
-    .after_help(OBSTRUCTIONS)
     .arg(modulus(alloc));
     taking(
         command,
@@ -334,9 +366,13 @@ fn kind<'a>(alloc: Global) -> Arg<'a>
 fn preset_command<'a>(alloc: Global) -> Result<Command<'a>, AllocError>
     ensures { IfOk result (IsLeaf line.preset) }
 {
-    let command = subcommand(alloc, "preset", "Write the text of a task that has a name")
-        .after_help(KINDS)
-        .arg(kind(alloc));
+    let command = subcommand(
+        alloc,
+        "preset",
+        "Write the text of a task that has a name",
+        KINDS,
+    )
+    .arg(kind(alloc));
     let command = taking(
         command,
         number(alloc, "processes", "How many processes there are, 1 to 4"),
@@ -381,6 +417,7 @@ fn first_five<'a>(alloc: Global) -> Result<Command<'a>, AllocError>
         .about(
             "Decide whether a task can be solved wait-free in r rounds of iterated immediate snapshots",
         )
+        .after_help(MORE)
         .version(VERSION)
         .subcommand_required(true);
     let command = adding(Ok(command), solve_command(alloc));

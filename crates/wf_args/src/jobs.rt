@@ -5,7 +5,7 @@ ghost use Rattle.wf_model.specs.Limits.{most_workers};
 ghost use Rattle.clap.specs.Words.{found_of, rows_of, subcommand_rows_of};
 ghost use Rattle.wf_words.specs.Asked.{Answers, this_job};
 ghost use Rattle.wf_args.specs.Job.{CanBeDone};
-ghost use Rattle.wf_args.specs.Asked.{this_or_mistake, asked_in, asked_of, branch_job, branches_asked, cnf_asked, executions_asked, explain_asked, join_asked, lift_asked, model_asked, obstruction_asked, points_asked, preset_job_asked, proof_asked, solve_asked, trim_asked, verify_asked, verify_branch, verify_whole, views_asked, workers_of};
+ghost use Rattle.wf_args.specs.Asked.{this_or_mistake, asked_in, asked_of, branch_job, branches_asked, cnf_asked, executions_asked, explain_asked, join_asked, lift_asked, model_asked, obstruction_asked, points_asked, preset_job_asked, proof_asked, solve_asked, trim_asked, verify_asked, verify_branch, verify_long, verify_whole, views_asked, workers_of};
 
 use crate::Job;
 use crate::forms::form_of;
@@ -133,14 +133,30 @@ fn branch_job(
     })
 }
 
-/// The job of `verify`.
+/// The job of `verify`. There is none with both `--branch` and `--long`.
 fn verify_job(alloc: Global, found: &ArgMatches<'_>) -> Result<Job, WordsFault>
     ensures asked { Answers (verify_asked (rows_of (found_of found.now))) result }
     ensures can_be_done { IfOk result CanBeDone }
 {
-    match number(found, "branch") {
-        None => verify_whole(alloc, found),
-        Some(branch) => verify_branch(alloc, found, branch),
+    match (number(found, "branch"), flag(found, "long")) {
+        (None, false) => verify_whole(alloc, found),
+        (None, true) => verify_long(alloc, found),
+        (Some(branch), false) => verify_branch(alloc, found, branch),
+        (Some(_), true) => Err(WordsFault::Words(Mistake::Beside(Piece::Long, Piece::Branch))),
+    }
+}
+
+/// The job of `verify` with `--long`.
+fn verify_long(alloc: Global, found: &ArgMatches<'_>) -> Result<Job, WordsFault>
+    ensures asked { Answers (verify_long (rows_of (found_of found.now))) result }
+    ensures can_be_done { IfOk result CanBeDone }
+{
+    match text(found, "task") {
+        Some(task) => Ok(Job::VerifyLong {
+            task: String::from_str(alloc, task)?,
+            rounds: number(found, "rounds"),
+        }),
+        None => Err(missing(Piece::Task)),
     }
 }
 
@@ -160,7 +176,7 @@ fn verify_branch(alloc: Global, found: &ArgMatches<'_>, branch: u32) -> Result<J
     }
 }
 
-/// The job of `verify` without `--branch`.
+/// The job of `verify` with neither `--branch` nor `--long`.
 fn verify_whole(alloc: Global, found: &ArgMatches<'_>) -> Result<Job, WordsFault>
     ensures asked { Answers (verify_whole (rows_of (found_of found.now))) result }
     ensures can_be_done { IfOk result CanBeDone }
@@ -260,6 +276,7 @@ fn proof_job(alloc: Global, found: &ArgMatches<'_>) -> Result<Job, WordsFault>
             rounds,
             branch: number(found, "branch"),
             hints: flag(found, "lrat"),
+            progress: flag(found, "progress"),
         }),
         (None, _) => Err(missing(Piece::Task)),
         (Some(_), None) => Err(missing(Piece::Rounds)),

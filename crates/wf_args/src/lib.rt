@@ -57,6 +57,13 @@ pub enum Job {
         /// How many rounds the report is to be for, where they are asked for.
         rounds: Option<u32>,
     },
+    /// Check a report about a task while it is read, however long it is.
+    VerifyLong {
+        /// The file that has the task.
+        task: String,
+        /// How many rounds the report is to be for, where they are asked for.
+        rounds: Option<u32>,
+    },
     /// Check the part of an answer that is about one branch of a task's question.
     VerifyBranch {
         /// The file that has the task.
@@ -116,6 +123,8 @@ pub enum Job {
         branch: Option<u32>,
         /// Whether the proof has hints (LRAT).
         hints: bool,
+        /// Whether it is told how the check goes on.
+        progress: bool,
     },
     /// Tell the points with what the map of a report decides there.
     Decisions {

@@ -15,7 +15,8 @@ use Rattle.wf_argument.specs.declared.losses.Loss.{Loss}
 use Rattle.wf_argument.specs.declared.reasons.Reason.{Reason}
 use Rattle.wf_argument.specs.Laws.{CitesEarlier, EachStepCitesEarlierSteps, IsBefore, PartCitesEarlier, PartsCiteEarlier, StepsCiteEarlier, TakingCitesEarlier}
 use Rattle.wf_argument.specs.Parts.{Part, takes, closes, splits, parts_of}
-use Rattle.wf_argument.specs.State.{Case, Gone, State, Taking, after, after_step, after_taking, case_of, cases_at, cites, cites_itself, deepest, entered, first_gone, in_this_case, is_gone, is_step, left_at, loss_among, losses, needed, points_in, reason_cmp, reason_or, start, steps_from, steps_in, take, take_each, take_in, taken, with_losses, with_reason, with_reasons}
+use Rattle.wf_argument_words.specs.Text.{points_in}
+use Rattle.wf_argument.specs.State.{Case, Gone, State, Taking, after, after_step, after_taking, case_of, cases_at, cites, cites_itself, deepest, entered, first_gone, in_this_case, is_gone, is_step, left_at, loss_among, losses, needed, reason_cmp, reason_or, start, steps_from, steps_in, take, take_each, take_in, taken, with_losses, with_reason, with_reasons}
 
 -- ---- lists
 

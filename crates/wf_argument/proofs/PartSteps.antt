@@ -2,9 +2,9 @@
 use Rattle.std.proofs.Common.{◌≡◌, ℕ, suc, ◌+◌, ◌<◌, ◌≤◌, ◌++◌, List, [], ◌∷◌, Bool, true, false, cond, Option, Some, None, fold, map, length, get_or, take, drop, append_assoc, take_all, sym, ap, ◌∙◌, arith}
 use Rattle.std.proofs.lemmas.List.{drop_all, drop_more, take_more}
 use Rattle.wf_model.specs.Task.{Tuple}
-use Rattle.wf_model.specs.Execution.{Execution}
 use Rattle.wf_model.specs.Problem.{Problem, Constraint, constraint_at}
-use Rattle.wf_argument.specs.State.{Gone, State, after_step, after_taking, cites_itself, in_steps, points_in, steps_from, steps_in, take_each, taken}
+use Rattle.wf_argument_words.specs.Text.{NamedExecutions, points_in}
+use Rattle.wf_argument.specs.State.{Gone, State, after_step, after_taking, cites_itself, in_steps, steps_from, steps_in, take_each, taken}
 use Rattle.wf_argument.specs.Text.{steps_text, taking_steps, taking_text, told_taking}
 
 -- ---- one step
@@ -73,7 +73,7 @@ module _ (p : Problem) (s s' : State) (e count : ℕ) (at : ℕ × ℕ) (values 
     is = is ∙ (λ i. record s { number = suc s.number; gone = (take_each (tuples_are i) (points_are i) s.number (sym there i).0 (sym there i).1 s.gone (take count values)).gone });
   }
 
-  pub told_step : (es : List Execution) (t t' : List ℕ) → IsStep → t' ≡ t ++ taking_text p es s e (take count values) at
+  pub told_step : (es : NamedExecutions) (t t' : List ℕ) → IsStep → t' ≡ t ++ taking_text p es s e (take count values) at
       → t' ++ told_taking p es s' e (drop count values) (Some at) ≡ t ++ told_taking p es s e values (Some at)
   told_step es t t' h told =
       let number = ap (λ (s : State). s.number) h.is in

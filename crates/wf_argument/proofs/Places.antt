@@ -6,14 +6,14 @@ use Rattle.std.proofs.lemmas.Slice.Zip.{seconds-zip}
 use Rattle.wf_model.specs.Simplex.{Simplex, processes_of}
 use Rattle.wf_model.specs.Task as task
 use Rattle.wf_model.specs.Task.{Task, Tuple, inputs}
-use Rattle.wf_model.specs.Execution.{Execution}
 use Rattle.wf_model.specs.Problem.{Problem, Constraint, constraint_at, no_constraint, problem_of}
 use Rattle.wf_model.specs.Check.{place_of}
 use Rattle.wf_complex.specs.Protocol.{Built, IsProtocol}
 use Rattle.wf_complex.proofs.Lemmas.{constraint_there, got, rule_inside, rule_there}
 use Rattle.wf_argument.specs.Places.{place_in}
-use Rattle.wf_argument.specs.State.{Gone, State, Taking, left_at, needed, points_in, take_each}
-use Rattle.wf_argument.specs.Text.{claim_text, execution_text, grounds_text, indented, rest_text, taking_text, told_taking}
+use Rattle.wf_argument_words.specs.Text.{NamedExecutions, execution_at, indented, points_in, rest_text}
+use Rattle.wf_argument.specs.State.{Gone, State, Taking, left_at, needed, take_each}
+use Rattle.wf_argument.specs.Text.{claim_text, grounds_text, taking_text, told_taking}
 use Rattle.wf_argument.specs.declared.reasons.Reason.{Reason}
 
 -- ---- a process and its point
@@ -118,14 +118,14 @@ there t r b e n c place points tuples built inside on are listed h =
 
 -- ---- what is said there, and what is gone then
 
-pub told_nobody : (p : Problem) (es : List Execution) (s : State) (e c : ℕ) (values t : List ℕ) → place_of 0 c (constraint_at p e).scope ≡ None → t ≡ t ++ told_taking p es s e values (place_of 0 c (constraint_at p e).scope)
+pub told_nobody : (p : Problem) (es : NamedExecutions) (s : State) (e c : ℕ) (values t : List ℕ) → place_of 0 c (constraint_at p e).scope ≡ None → t ≡ t ++ told_taking p es s e values (place_of 0 c (constraint_at p e).scope)
 told_nobody p es s e c values t none = sym (ap (λ at. t ++ told_taking p es s e values at) none ∙ append-nil t)
 
 -- a step that has taken values from a point
-pub told_found : (p : Problem) (es : List Execution) (s : State) (e place v : ℕ) (values points : List ℕ) (tuples noted : List Tuple) (why : List Reason) (gone : Gone) → points ≡ points_in (constraint_at p e) → tuples ≡ (constraint_at p e).tuples
+pub told_found : (p : Problem) (es : NamedExecutions) (s : State) (e place v : ℕ) (values points : List ℕ) (tuples noted : List Tuple) (why : List Reason) (gone : Gone) → points ≡ points_in (constraint_at p e) → tuples ≡ (constraint_at p e).tuples
     → noted ≡ flat_map (needed tuples place) values → why ≡ (take_each tuples points s.number place v s.gone values).reasons → gone ≡ (take_each tuples points s.number place v s.gone values).gone
-    → indented s.depth (claim_text s.number v values e ++ (execution_text (slice_get es e) ++ (codes ", " ++ (grounds_text points noted why ++ rest_text v (left_at p.values gone v))))) ≡ taking_text p es s e values (place, v)
+    → indented s.depth (claim_text s.number v values e ++ (execution_at es e ++ (codes ", " ++ (grounds_text points noted why ++ rest_text v (left_at p.values gone v))))) ≡ taking_text p es s e values (place, v)
 told_found p es s e place v values points tuples noted why gone points_are tuples_are are rest then =
-    let line : List Tuple → List Reason → Gone → List ℕ → List ℕ = λ noted why gone points. indented s.depth (claim_text s.number v values e ++ (execution_text (slice_get es e) ++ (codes ", " ++ (grounds_text points noted why ++ rest_text v (left_at p.values gone v))))) in
+    let line : List Tuple → List Reason → Gone → List ℕ → List ℕ = λ noted why gone points. indented s.depth (claim_text s.number v values e ++ (execution_at es e ++ (codes ", " ++ (grounds_text points noted why ++ rest_text v (left_at p.values gone v))))) in
     (λ i. line (are i) (rest i) (then i) points)
     ∙ (λ i. let done : Taking = take_each (tuples_are i) (points_are i) s.number place v s.gone values in line (flat_map (needed (tuples_are i) place) values) done.reasons done.gone (points_are i))

@@ -2,21 +2,23 @@
 use Rattle.std.proofs.Common.{◌≡◌, ℕ, ◌<◌, ◌+◌, ◌==◌, ◌&&◌, ◌++◌, List, [], ◌∷◌, drop, map, length, get_or, Bool, true, false, cond, Option, Some, None, append_assoc, refl, sym, ap, ◌∙◌, arith}
 use Rattle.std.specs.Option.{is_some}
 use Rattle.std.proofs.lemmas.Bool.{eqb-true, and_parts}
-use Rattle.wf_model.specs.Execution.{Execution}
+use Rattle.wf_complex.proofs.Lemmas.{and_more}
 use Rattle.wf_model.specs.Problem.{Problem}
 use Rattle.wf_model.specs.Refutation as refutation
 use Rattle.wf_model.specs.Refutation.{remove, empty, branch, found}
 use Rattle.wf_lines.specs.Lines.{line_of}
 use Rattle.wf_lines.specs.declared.line.Line.{Line}
+use Rattle.wf_argument_words.specs.Text.{NamedExecutions}
 use Rattle.wf_argument.specs.Parts.{Part, takes, before_parts, parts_of}
 use Rattle.wf_argument.specs.State as state
 use Rattle.wf_argument.specs.State.{Case, after}
-use Rattle.wf_argument.specs.Subject.{after_same, and_values, begun_text, executions_in, now_if, one_if, or_lines, problem_in, same_values, steps_to_come, to_come}
+use Rattle.wf_argument_words.specs.Subject.{executions_in, problem_in}
+use Rattle.wf_argument.specs.Subject.{after_same, and_values, begun_text, now_if, one_if, or_lines, same_values, steps_to_come, to_come}
 use Rattle.wf_argument.specs.Text.{case_text, part_steps, part_text, parts_text, steps_made}
 use Rattle.wf_argument.specs.Trail.{begun, first_case}
 use Rattle.wf_argument.specs.declared.state.Case as trail
 use Rattle.wf_argument.specs.declared.state.State.{State}
-use Rattle.wf_argument.specs.declared.subject.Subject.{Subject}
+use Rattle.wf_argument_words.specs.declared.subject.Subject.{Subject}
 
 -- ---- lines that go together
 
@@ -41,7 +43,7 @@ first_line (x ∷ ls) l d some is = ap (λ x. line_of x ∷ map line_of ls) is
 
 -- ---- what is told of a part
 
-pub told_part : (p : Problem) (es : List Execution) (s : state.State) (next : Option state.State) (part : Part) (parts later : List Part) (t0 t1 : List ℕ) → parts ≡ part ∷ later → t1 ≡ t0 ++ part_text p es s part → next ≡ after p s part
+pub told_part : (p : Problem) (es : NamedExecutions) (s : state.State) (next : Option state.State) (part : Part) (parts later : List Part) (t0 t1 : List ℕ) → parts ≡ part ∷ later → t1 ≡ t0 ++ part_text p es s part → next ≡ after p s part
     → t1 ++ parts_text p es next later ≡ t0 ++ parts_text p es (Some s) parts
 told_part p es s next part parts later t0 t1 are told is =
     (λ i. told i ++ parts_text p es (is i) later)
@@ -83,3 +85,13 @@ going_on (Some x) s b next is then = ap (λ b. now_if b s) is ∙ then
 -- a line in words, of which two parts are told
 pub one_line : (t0 t1 t2 m a b end : List ℕ) → t1 ≡ t0 ++ m → t2 ≡ t1 ++ (a ++ (b ++ end)) → t2 ≡ t0 ++ (m ++ ((a ++ b) ++ end))
 one_line t0 t1 t2 m a b end first second = second ∙ ap (λ x. x ++ (a ++ (b ++ end))) first ∙ append_assoc t0 m (a ++ (b ++ end)) ∙ ap (λ xs. t0 ++ (m ++ xs)) (sym (append_assoc a b end))
+
+-- a step in words, piece by piece
+pub step_line : (t0 t1 t2 t3 t4 t5 t6 t7 m c e p g r n : List ℕ) → t1 ≡ t0 ++ m → t2 ≡ t1 ++ c → t3 ≡ t2 ++ e → t4 ≡ t3 ++ p → t5 ≡ t4 ++ g → t6 ≡ t5 ++ r → t7 ≡ t6 ++ n
+    → t7 ≡ t0 ++ (m ++ ((c ++ (e ++ (p ++ (g ++ r)))) ++ n))
+step_line t0 t1 t2 t3 t4 t5 t6 t7 m c e p g r n first second third fourth fifth sixth last =
+    let whole = c ++ (e ++ (p ++ (g ++ r))) in
+    and_more t0 t1 t7 m (whole ++ n) first
+    (last
+    ∙ ap (λ x. x ++ n) (and_more t1 t2 t6 c (e ++ (p ++ (g ++ r))) second (and_more t2 t3 t6 e (p ++ (g ++ r)) third (and_more t3 t4 t6 p (g ++ r) fourth (and_more t4 t5 t6 g r fifth sixth))))
+    ∙ append_assoc t1 whole n)

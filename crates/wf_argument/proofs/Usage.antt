@@ -10,9 +10,9 @@ use Rattle.wf_model.specs.Refutation as refutation
 use Rattle.wf_model.specs.Refutation.{remove, empty, branch, found}
 use Rattle.wf_model.specs.View.{View}
 use Rattle.wf_model.specs.Task.{Task}
-use Rattle.wf_model.specs.Execution.{executions}
 use Rattle.wf_model.specs.Points.{points as view_points}
 use Rattle.wf_complex.specs.Protocol.{Built, IsProtocol}
+use Rattle.wf_argument_words.specs.Text.{named_executions}
 use Rattle.wf_argument.specs.State.{start}
 use Rattle.wf_model.proofs.Basics.{or_none}
 use Rattle.wf_lines.specs.Lines.{line_of}
@@ -140,11 +140,11 @@ points_told t b ls marks points steps used count built h =
 -- the title, the points and then the parts
 pub whole : (t : Task) (b : Built) (ls : List refutation.Line) (marks points : List Bool) (steps used count : ℕ) (parts t0 t1 t2 t3 t4 t5 text : List ℕ) → IsProtocol t b.rounds b → IsUsed t b ls marks points steps used count
     → t0 ≡ [] → t1 ≡ t0 ++ title_of b.rounds steps used count → t2 ≡ t1 ++ codes "Points\n" → t3 ≡ t2 ++ marked_text t.symmetric points 0 b.points → t4 ≡ t3 ++ codes "Argument\n"
-    → parts ≡ [] ++ parts_text (problem_of t b.rounds) (executions t b.rounds) (Some (start (problem_of t b.rounds))) (parts_of ls) → t5 ≡ t4 ++ parts → text ≡ t5 → text ≡ argument_text t b.rounds ls
+    → parts ≡ [] ++ parts_text (problem_of t b.rounds) (named_executions t b.rounds) (Some (start (problem_of t b.rounds))) (parts_of ls) → t5 ≡ t4 ++ parts → text ≡ t5 → text ≡ argument_text t b.rounds ls
 whole t b ls marks points steps used count parts t0 t1 t2 t3 t4 t5 text built h none first second third fourth told fifth is =
     let title = title_of b.rounds steps used count in
     let points_text = marked_text t.symmetric points 0 b.points in
-    let rest = parts_text (problem_of t b.rounds) (executions t b.rounds) (Some (start (problem_of t b.rounds))) (parts_of ls) in
+    let rest = parts_text (problem_of t b.rounds) (named_executions t b.rounds) (Some (start (problem_of t b.rounds))) (parts_of ls) in
     is
     ∙ and_more t0 t1 t5 title (codes "Points\n" ++ (points_text ++ (codes "Argument\n" ++ rest))) first
     (and_more t1 t2 t5 (codes "Points\n") (points_text ++ (codes "Argument\n" ++ rest)) second (and_more t2 t3 t5 points_text (codes "Argument\n" ++ rest) third (and_more t3 t4 t5 (codes "Argument\n") rest fourth (fifth ∙ ap (λ xs. t4 ++ xs) told))))

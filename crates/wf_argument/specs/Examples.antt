@@ -1,5 +1,5 @@
 -- Worked examples, by computation.
-use Rattle.std.specs.Prelude.{◌≡◌, ℕ, true, [], ◌∷◌, map, replicate, Option, Some, None, codes, refl}
+use Rattle.std.specs.Prelude.{◌≡◌, ℕ, true, [], ◌∷◌, map, Option, Some, None, codes, refl}
 use Rattle.std.specs.Fmt.{digits}
 use Rattle.wf_model.specs.ExampleTasks.{one, edge, path, consensus, renaming_2_2}
 use Rattle.wf_model.specs.Problem.{Constraint}
@@ -8,10 +8,10 @@ use Rattle.wf_model.specs.Simplex.{complex_of}
 use Rattle.wf_model.specs.Task.{Task}
 use Rattle.wf_argument.specs.declared.losses.Loss.{Loss}
 use Rattle.wf_argument.specs.declared.reasons.Reason.{Reason}
-use Rattle.wf_argument.specs.Listing.{executions_text}
 use Rattle.wf_argument.specs.Parts.{parts_of, takes, closes, splits}
-use Rattle.wf_argument.specs.State.{Gone, first_gone, needed, points_in, steps_in, taken, take_in, with_reasons}
-use Rattle.wf_argument.specs.Text.{argument_text, words_text, any_text, number_text, needed_text, reasons_text}
+use Rattle.wf_argument_words.specs.Text.{points_in}
+use Rattle.wf_argument.specs.State.{Gone, first_gone, needed, steps_in, taken, take_in, with_reasons}
+use Rattle.wf_argument.specs.Text.{argument_text, reasons_text}
 
 abbrev lost : ℕ → Option ℕ → Loss
 lost a step = record { value = a; step = step }
@@ -23,28 +23,8 @@ reason v a step = record { point = v; loss = lost a step }
 pub lines_in_steps : parts_of (remove 0 0 1 ∷ remove 0 0 2 ∷ remove 0 1 0 ∷ branch 4 ∷ remove 0 1 1 ∷ empty 3 ∷ []) ≡ takes 0 0 (1 ∷ 2 ∷ []) ∷ takes 0 1 (0 ∷ []) ∷ splits 4 ∷ takes 0 1 (1 ∷ []) ∷ closes 3 ∷ []
 lines_in_steps = refl
 
-pub values_in_words : any_text number_text (0 ∷ 2 ∷ 13 ∷ []) ≡ codes "0, 2 or 13"
-unfolding digits
-values_in_words = refl
-
-pub words_of_two_rounds : words_text (0 ∷ 1 ∷ 3 ∷ []) ((1 ∷ 0 ∷ 1 ∷ []) ∷ (0 ∷ 0 ∷ 0 ∷ []) ∷ []) ≡ codes "{p1}{p0 p3} ; {p0 p1 p3}"
-unfolding digits
-words_of_two_rounds = refl
-
-pub those_who_take_part : words_text (0 ∷ 1 ∷ []) [] ≡ codes "{p0 p1}"
-unfolding digits
-those_who_take_part = refl
-
-pub what_would_be_needed : needed_text (4 ∷ 7 ∷ []) ((0 ∷ 1 ∷ []) ∷ (2 ∷ 1 ∷ []) ∷ []) ≡ codes "(v4, v7) would be (0, 1) or (2, 1)"
-unfolding digits
-what_would_be_needed = refl
-
-pub more_tuples_than_are_told : needed_text (4 ∷ []) (replicate 9 (0 ∷ [])) ≡ codes "(v4) would be one of 9 tuples"
-unfolding digits
-more_tuples_than_are_told = refl
-
--- by points; one of another step and one of the case
-pub reasons_in_words : reasons_text None (reason 4 0 (Some 3) ∷ reason 4 2 None ∷ reason 7 1 (Some 12) ∷ []) ≡ codes ", but v4 is not 0 [3], 2 in this case, and v7 is not 1 [12]"
+-- by points; one of another step and one of the case; and values of one step together
+pub reasons_in_words : reasons_text (reason 4 0 (Some 3) ∷ reason 4 2 None ∷ reason 7 1 (Some 12) ∷ reason 7 4 (Some 12) ∷ []) ≡ codes ", but v4 is not 0 [3], 2 in this case, and v7 is not 1 or 4 [12]"
 unfolding digits
 reasons_in_words = refl
 
@@ -82,17 +62,17 @@ pub in_one_step : steps_in one_point_twice 4 (0, 0) ((lost 0 (Some 2) ∷ []) �
 in_one_step = refl
 
 -- consensus of two after one round
-pub consensus_argument : argument_text consensus 1 (remove 0 0 1 ∷ remove 1 1 0 ∷ remove 3 1 1 ∷ remove 4 0 0 ∷ remove 2 0 1 ∷ empty 2 ∷ []) ≡ codes "No decision map after 1 round: 5 steps over 5 of 5 executions.\n\nPoints\n  v0 is p0 saw {p0=0}\n  v1 is p1 saw {p1=1}\n  v2 is p0 saw {p0=0, p1=1}\n  v3 is p1 saw {p0=0, p1=1}\nArgument\n  1. v0 is not 1: in execution 0, {p0}, no tuple at (v0) has it. So v0 is 0.\n  2. v1 is not 0: in execution 1, {p1}, no tuple at (v1) has it. So v1 is 1.\n  3. v3 is not 1: in execution 3, {p0}{p1}, (v0, v3) would be (1, 1), but v0 is not 1 [1]. So v3 is 0.\n  4. v2 is not 0: in execution 4, {p1}{p0}, (v2, v1) would be (0, 0), but v1 is not 0 [2]. So v2 is 1.\n  5. v2 is not 1: in execution 2, {p0 p1}, (v2, v3) would be (1, 1), but v3 is not 1 [3].\n  v2 has no value left.\n"
+pub consensus_argument : argument_text consensus 1 (remove 0 0 1 ∷ remove 1 1 0 ∷ remove 3 1 1 ∷ remove 4 0 0 ∷ remove 2 0 1 ∷ empty 2 ∷ []) ≡ codes "No decision map after 1 round: 5 steps over 5 of 5 executions.\n\nPoints\n  v0 is p0 saw {p0=0}\n  v1 is p1 saw {p1=1}\n  v2 is p0 saw {p0=0, p1=1}\n  v3 is p1 saw {p0=0, p1=1}\nArgument\n  1. v0 is not 1: in execution 0, {p0=0}, no tuple at (v0) has it. So v0 is 0.\n  2. v1 is not 0: in execution 1, {p1=1}, no tuple at (v1) has it. So v1 is 1.\n  3. v3 is not 1: in execution 3, {p0=0}{p1=1}, (v0, v3) would be (1, 1), but v0 is not 1 [1]. So v3 is 0.\n  4. v2 is not 0: in execution 4, {p1=1}{p0=0}, (v2, v1) would be (0, 0), but v1 is not 0 [2]. So v2 is 1.\n  5. v2 is not 1: in execution 2, {p0=0 p1=1}, (v2, v3) would be (1, 1), but v3 is not 1 [3].\n  v2 has no value left.\n"
 unfolding digits
 consensus_argument = refl
 
 -- renaming of two with two names: a symmetric task, whose points are told by ranks, and two cases
-pub renaming_argument : argument_text renaming_2_2 1 (branch 0 ∷ remove 3 1 0 ∷ remove 4 0 0 ∷ remove 2 0 1 ∷ empty 1 ∷ remove 3 1 1 ∷ remove 4 0 1 ∷ remove 2 0 0 ∷ empty 1 ∷ []) ≡ codes "No decision map after 1 round: 7 steps over 3 of 5 executions.\n\nPoints\n  v0 is #0 saw {#0=0}\n  v1 is #0 saw {#0=0, #1=0}\n  v2 is #1 saw {#0=0, #1=0}\nArgument\n  1. v0 is 0 or 1.\n    Case v0 = 0\n    2. v2 is not 0: in execution 3, {p0}{p1}, (v0, v2) would be (1, 0), but v0 is not 1 in this case. So v2 is 1.\n    3. v1 is not 0: in execution 4, {p1}{p0}, (v1, v0) would be (0, 1), but v0 is not 1 in this case. So v1 is 1.\n    4. v1 is not 1: in execution 2, {p0 p1}, (v1, v2) would be (1, 0), but v2 is not 0 [2].\n    v1 has no value left.\n    Case v0 = 1\n    5. v2 is not 1: in execution 3, {p0}{p1}, (v0, v2) would be (0, 1), but v0 is not 0 in this case. So v2 is 0.\n    6. v1 is not 1: in execution 4, {p1}{p0}, (v1, v0) would be (1, 0), but v0 is not 0 in this case. So v1 is 0.\n    7. v1 is not 0: in execution 2, {p0 p1}, (v1, v2) would be (0, 1), but v2 is not 1 [5].\n    v1 has no value left.\n"
+pub renaming_argument : argument_text renaming_2_2 1 (branch 0 ∷ remove 3 1 0 ∷ remove 4 0 0 ∷ remove 2 0 1 ∷ empty 1 ∷ remove 3 1 1 ∷ remove 4 0 1 ∷ remove 2 0 0 ∷ empty 1 ∷ []) ≡ codes "No decision map after 1 round: 7 steps over 3 of 5 executions.\n\nPoints\n  v0 is #0 saw {#0=0}\n  v1 is #0 saw {#0=0, #1=0}\n  v2 is #1 saw {#0=0, #1=0}\nArgument\n  1. v0 is 0 or 1.\n    Case v0 = 0\n    2. v2 is not 0: in execution 3, {#0=0}{#1=0}, (v0, v2) would be (1, 0), but v0 is not 1 in this case. So v2 is 1.\n    3. v1 is not 0: in execution 4, {#1=0}{#0=0}, (v1, v0) would be (0, 1), but v0 is not 1 in this case. So v1 is 1.\n    4. v1 is not 1: in execution 2, {#0=0 #1=0}, (v1, v2) would be (1, 0), but v2 is not 0 [2].\n    v1 has no value left.\n    Case v0 = 1\n    5. v2 is not 1: in execution 3, {#0=0}{#1=0}, (v0, v2) would be (0, 1), but v0 is not 0 in this case. So v2 is 0.\n    6. v1 is not 1: in execution 4, {#1=0}{#0=0}, (v1, v0) would be (1, 0), but v0 is not 0 in this case. So v1 is 0.\n    7. v1 is not 0: in execution 2, {#0=0 #1=0}, (v1, v2) would be (0, 1), but v2 is not 1 [5].\n    v1 has no value left.\n"
 unfolding digits
 renaming_argument = refl
 
 -- no round, and steps that take several values
-pub path_argument_without_rounds : argument_text (path 3) 0 (remove 0 0 1 ∷ remove 0 0 2 ∷ remove 0 0 3 ∷ remove 1 1 0 ∷ remove 1 1 1 ∷ remove 1 1 2 ∷ remove 2 0 0 ∷ empty 0 ∷ []) ≡ codes "No decision map after 0 rounds: 3 steps over 3 of 3 executions.\n\nPoints\n  v0 is p0=0\n  v1 is p1=0\nArgument\n  1. v0 is not 1, 2 or 3: in execution 0, {p0}, no tuple at (v0) has it. So v0 is 0.\n  2. v1 is not 0, 1 or 2: in execution 1, {p1}, no tuple at (v1) has it. So v1 is 3.\n  3. v0 is not 0: in execution 2, {p0 p1}, (v0, v1) would be (0, 0) or (0, 1), but v1 is not 0 [2], 1 [2].\n  v0 has no value left.\n"
+pub path_argument_without_rounds : argument_text (path 3) 0 (remove 0 0 1 ∷ remove 0 0 2 ∷ remove 0 0 3 ∷ remove 1 1 0 ∷ remove 1 1 1 ∷ remove 1 1 2 ∷ remove 2 0 0 ∷ empty 0 ∷ []) ≡ codes "No decision map after 0 rounds: 3 steps over 3 of 3 executions.\n\nPoints\n  v0 is p0=0\n  v1 is p1=0\nArgument\n  1. v0 is not 1, 2 or 3: in execution 0, {p0=0}, no tuple at (v0) has it. So v0 is 0.\n  2. v1 is not 0, 1 or 2: in execution 1, {p1=0}, no tuple at (v1) has it. So v1 is 3.\n  3. v0 is not 0: in execution 2, {p0=0 p1=0}, (v0, v1) would be (0, 0) or (0, 1), but v1 is not 0 or 1 [2].\n  v0 has no value left.\n"
 unfolding digits
 path_argument_without_rounds = refl
 
@@ -109,22 +89,12 @@ alike = record {
   outputs = complex_of (edge 0 1 ∷ one 0 1 ∷ one 0 2 ∷ one 1 0 ∷ one 1 2 ∷ []);
 }
 
-pub argument_about_one_point : argument_text alike 0 (remove 2 0 1 ∷ remove 2 0 2 ∷ remove 2 0 0 ∷ empty 0 ∷ []) ≡ codes "No decision map after 0 rounds: 2 steps over 1 of 3 executions.\n\nPoints\n  v0 is #0=0\nArgument\n  1. v0 is not 1 or 2: in execution 2, {p0 p1}, no tuple at (v0, v0) has it. So v0 is 0.\n  2. v0 is not 0: in execution 2, {p0 p1}, (v0, v0) would be (0, 1), but v0 is not 1 [1].\n  v0 has no value left.\n"
+pub argument_about_one_point : argument_text alike 0 (remove 2 0 1 ∷ remove 2 0 2 ∷ remove 2 0 0 ∷ empty 0 ∷ []) ≡ codes "No decision map after 0 rounds: 2 steps over 1 of 3 executions.\n\nPoints\n  v0 is #0=0\nArgument\n  1. v0 is not 1 or 2: in execution 2, {#0=0 #1=0}, no tuple at (v0, v0) has it. So v0 is 0.\n  2. v0 is not 0: in execution 2, {#0=0 #1=0}, (v0, v0) would be (0, 1), but v0 is not 1 [1].\n  v0 has no value left.\n"
 unfolding digits
 argument_about_one_point = refl
 
 -- only the points of which the lines speak are told; a line that names no
 -- participant of an execution is left out
-pub a_line_that_names_nobody : argument_text consensus 0 (remove 0 1 1 ∷ remove 0 0 1 ∷ empty 1 ∷ []) ≡ codes "No decision map after 0 rounds: 1 step over 1 of 3 executions.\n\nPoints\n  v0 is p0=0\n  v1 is p1=1\nArgument\n  1. v0 is not 1: in execution 0, {p0}, no tuple at (v0) has it. So v0 is 0.\n  v1 has no value left.\n"
+pub a_line_that_names_nobody : argument_text consensus 0 (remove 0 1 1 ∷ remove 0 0 1 ∷ empty 1 ∷ []) ≡ codes "No decision map after 0 rounds: 1 step over 1 of 3 executions.\n\nPoints\n  v0 is p0=0\n  v1 is p1=1\nArgument\n  1. v0 is not 1: in execution 0, {p0=0}, no tuple at (v0) has it. So v0 is 0.\n  v1 has no value left.\n"
 unfolding digits
 a_line_that_names_nobody = refl
-
--- the executions of consensus after one round, and those of a symmetric task,
--- in which one point stands at two places
-pub executions_of_consensus : executions_text consensus 1 ≡ codes "0 {p0} : 0\n1 {p1} : 1\n2 {p0 p1} : 2 3\n3 {p0}{p1} : 0 3\n4 {p1}{p0} : 2 1\n"
-unfolding digits
-executions_of_consensus = refl
-
-pub executions_of_renaming : executions_text renaming_2_2 1 ≡ codes "0 {p0} : 0\n1 {p1} : 0\n2 {p0 p1} : 1 2\n3 {p0}{p1} : 0 2\n4 {p1}{p0} : 1 0\n"
-unfolding digits
-executions_of_renaming = refl

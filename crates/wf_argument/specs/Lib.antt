@@ -3,8 +3,6 @@ pub mod Parts
 pub mod State
 pub mod Text
 pub mod Laws
-pub mod Table
-pub mod Listing
 -- What they say of the program's own: what it keeps, and what it is to tell.
 pub mod Places
 pub mod Seats

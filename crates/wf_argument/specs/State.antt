@@ -10,6 +10,7 @@ use Rattle.wf_model.specs.Task.{Tuple}
 use Rattle.wf_model.specs.Problem.{Problem, Constraint, constraint_at}
 use Rattle.wf_model.specs.Box.{has_at}
 use Rattle.wf_model.specs.Check.{place_of}
+use Rattle.wf_argument_words.specs.Text.{points_in}
 use Rattle.wf_argument.specs.declared.losses.Loss.{Loss}
 use Rattle.wf_argument.specs.declared.reasons.Reason.{Reason}
 use Rattle.wf_argument.specs.Parts.{Part, takes, closes, splits}
@@ -71,9 +72,6 @@ reason_cmp x y = ordering_then (nat_cmp x.point y.point) (nat_cmp x.loss.value y
 abbrev pub with_reason : List Reason → Option Reason → List Reason
 with_reason reasons None = reasons
 with_reason reasons (Some x) = with_element reason_cmp x reasons
-
-abbrev pub points_in : Constraint → List ℕ
-points_in k = map (λ at. at.1) k.scope
 
 -- those of the tuples that have this value at this place
 abbrev pub needed : List Tuple → ℕ → ℕ → List Tuple

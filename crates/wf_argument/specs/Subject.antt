@@ -1,34 +1,21 @@
--- What an argument is about, and what is still to be told.
+-- What is still to be told of an argument.
 use Rattle.std.specs.Prelude.{◌≡◌, ◌<◌, ℕ, Bool, true, false, ◌&&◌, ◌==◌, ◌++◌, List, [], ◌∷◌, drop, length, map, Option, Some, None, codes, decimal, if◌then◌else◌}
-use Rattle.wf_model.specs.Execution.{Execution, executions}
-use Rattle.wf_model.specs.Problem.{Problem, constraint_at, problem_of}
+use Rattle.wf_model.specs.Problem.{constraint_at}
 use Rattle.wf_model.specs.Refutation as refutation
 use Rattle.wf_model.specs.Refutation.{remove, empty, branch, found}
 use Rattle.wf_lines.specs.Lines.{line_of}
 use Rattle.wf_lines.specs.declared.line.Line.{Line}
-use Rattle.wf_complex.specs.Protocol.{IsProtocol}
 use Rattle.wf_argument.specs.Parts.{parts_of}
-use Rattle.wf_argument.specs.Table.{table_of}
 use Rattle.wf_argument.specs.Seats.{point_at}
 use Rattle.wf_argument.specs.State as state
-use Rattle.wf_argument.specs.State.{points_in}
-use Rattle.wf_argument.specs.Text.{indented, name, parts_text, steps_made, told_taking}
+use Rattle.wf_argument_words.specs.Subject.{executions_in, problem_in}
+use Rattle.wf_argument_words.specs.Text.{points_in, indented, name}
+use Rattle.wf_argument.specs.Text.{parts_text, steps_made, told_taking}
 use Rattle.wf_argument.specs.Trail.{state_of}
 use Rattle.wf_argument.specs.declared.seat.Participant.{Participant}
 use Rattle.wf_argument.specs.declared.state.Case.{Case}
 use Rattle.wf_argument.specs.declared.state.State.{State}
-use Rattle.wf_argument.specs.declared.subject.Subject.{Subject}
-
--- the protocol complex and the table are those of the task
-pub record IsMatched (x : Subject) : Type 0 where
-  pub protocol : IsProtocol x.task.now x.protocol.now.rounds x.protocol.now
-  pub table : x.executions.now ≡ table_of x.task.now x.protocol.now.rounds
-
-abbrev pub problem_in : Subject → Problem
-problem_in x = problem_of x.task.now x.protocol.now.rounds
-
-abbrev pub executions_in : Subject → List Execution
-executions_in x = executions x.task.now x.protocol.now.rounds
+use Rattle.wf_argument_words.specs.declared.subject.Subject.{Subject}
 
 -- what is said where a case has begun
 abbrev pub begun_text : Option Case → List ℕ

@@ -5,7 +5,8 @@ use Rattle.wf_model.specs.Lists.{has}
 use Rattle.wf_model.specs.Problem.{Participant}
 use Rattle.wf_model.specs.Refutation.{Line, remove, empty, branch, found}
 use Rattle.wf_model.specs.View.{View}
-use Rattle.wf_argument.specs.Text.{counted, point_text}
+use Rattle.wf_argument_words.specs.Text.{counted}
+use Rattle.wf_argument.specs.Text.{point_text}
 
 -- the numbers that pass are marked too
 pub record AreMarked (old new : List Bool) (test : ℕ → Bool) : Type 0 where

@@ -19,6 +19,8 @@ pub(crate) struct Grounds {
     pub(crate) needed: Vec<Row>,
     /// The reasons, by point and then by value.
     pub(crate) reasons: Vec<Reason>,
+    /// Room for values that are told together.
+    pub(crate) room: Vec<u8>,
 }
 
 impl Grounds {
@@ -30,6 +32,7 @@ impl Grounds {
         Grounds {
             needed: Vec::new(alloc),
             reasons: Vec::new(alloc),
+            room: Vec::new(alloc),
         }
     }
 

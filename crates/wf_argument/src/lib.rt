@@ -2,20 +2,16 @@
 //! of a refutation in words.
 //!
 //! - [`write_argument`]: the whole argument, in one pass over the lines for its parts.
-//! - [`Executions`]: the executions of a task in words.
-//! - [`write_executions`]: all of them, with their points.
 //! - [`each_step_cites_earlier_steps`]: a law, that no step cites itself or a later one.
 //!
 //! `specs/` says what it is: `Parts`, which lines go together; `State`, what is gone after some of
-//! them and why; and `Text`, the words. `Trail` is what the program keeps of a state, and `Table`
-//! what executions are told by.
+//! them and why; and `Text`, the text. Its words are those of `wf_argument_words`. `Trail` is what
+//! the program keeps of a state.
 #![tactic(auto)]
 
 mod argument;
-mod executions;
 mod grounds;
 mod laws;
-mod listed;
 mod losses;
 mod parts;
 mod points;
@@ -23,12 +19,9 @@ mod reasons;
 mod seat;
 mod state;
 mod steps;
-mod subject;
 mod title;
 mod used;
 mod words;
 
 pub use argument::write_argument;
-pub use executions::Executions;
 pub use laws::each_step_cites_earlier_steps;
-pub use listed::write_executions;

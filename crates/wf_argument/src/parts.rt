@@ -1,28 +1,25 @@
 //! The parts of an argument, one after another.
 
 ghost use Rattle.std.specs.Prelude.{◌≡◌, ◌<◌, ◌≤◌, ◌∷◌, ◌++◌, ◌+◌, ◌^◌, codes, suc, drop, length, map, string_bytes, Some, None, IfOk, IfSome, OnOk};
-ghost use Rattle.wf_model.specs.Execution.{executions};
 ghost use Rattle.wf_model.specs.Problem.{problem_of};
 ghost use Rattle.wf_complex.specs.Protocol.{IsProtocol};
 ghost use Rattle.wf_lines.specs.Lines.{line_of};
-ghost use Rattle.wf_set.specs.Sets.{values_in};
 ghost use Rattle.wf_argument.specs.Parts.{parts_of};
 ghost use Rattle.wf_argument.specs.State.{cases_at, entered, start};
-ghost use Rattle.wf_argument.specs.Subject.{IsMatched, after_same, begun_text, executions_in, now_if, one_if, problem_in, same_value, same_values, steps_to_come, to_come};
-ghost use Rattle.wf_argument.specs.Text.{any_text, end_text, indented, name, number_text, parts_text, split_text, step_text, steps_made};
+ghost use Rattle.wf_argument_words.specs.Subject.{IsMatched, executions_in, problem_in};
+ghost use Rattle.wf_argument.specs.Subject.{after_same, begun_text, now_if, one_if, same_value, same_values, steps_to_come, to_come};
+ghost use Rattle.wf_argument_words.specs.Text.{indented, name, named_executions, values_text};
+ghost use Rattle.wf_argument.specs.Text.{end_text, parts_text, split_text, step_text, steps_made};
 ghost use Rattle.wf_argument.specs.Trail.{state_of, values_of};
 
-use crate::executions::Executions;
 use crate::grounds::Grounds;
 use crate::state::{Case, State};
 use crate::steps::{LineRun, put_taking};
-use crate::subject::Subject;
-use crate::words::{put_any, put_margin};
 use std::alloc::{AllocError, Global};
 use std::fmt::Write;
+use wf_argument_words::{Executions, Subject, list_values, put_margin, put_values};
 use wf_complex::Protocol;
 use wf_lines::Line;
-use wf_set::{Mask, split_first};
 use wf_task::Task;
 
 /// Memory that is used again from part to part.
@@ -44,7 +41,7 @@ pub(crate) fn put_lines(
 ) -> Result<usize, AllocError>
     requires { IsProtocol task.now protocol.now.rounds protocol.now }
     ensures text { let p = problem_of task.now protocol.now.rounds in
-        let es = executions task.now protocol.now.rounds in
+        let es = named_executions task.now protocol.now.rounds in
         OnOk result (string_bytes text.new ≡ string_bytes text.old
         ++ parts_text p es (Some (start p)) (parts_of (map line_of lines.now))) }
     ensures steps { let p = problem_of task.now protocol.now.rounds in
@@ -249,26 +246,12 @@ fn put_choice(
 ) -> Result<(), AllocError>
     ensures { OnOk result (string_bytes text.new ≡ string_bytes text.old
         ++ indented depth (step_text number point
-        ++ (codes " is " ++ (any_text number_text values.now ++ codes ".")))) }
+        ++ (codes " is " ++ (values_text values.now ++ codes ".")))) }
 {
     put_margin(text, depth)?;
     write!(text, "{number}. v{point} is ")?;
-    put_any(text, values)?;
+    put_values(text, values)?;
     writeln!(text, ".")?;
-    Ok(())
-}
-
-/// The values of a set, ascending.
-fn list_values(values: &mut Vec<u8>, set: Mask) -> Result<(), AllocError>
-    ensures { OnOk result (values.new.items ≡ values_in set) }
-{
-    values.clear();
-    let mut left = set;
-    'values: while let Some(split) = split_first(left) {
-        let (value, others) = split;
-        values.push(value)?;
-        left = others;
-    }
     Ok(())
 }
 

@@ -1,23 +1,25 @@
 //! The steps that take values.
 
-ghost use Rattle.std.specs.Prelude.{◌≡◌, ◌<◌, ◌≤◌, [], ◌++◌, ◌+◌, ◌^◌, codes, drop, get_or, length, slice_get, string_bytes, IfOk, OnOk};
+ghost use Rattle.std.specs.Prelude.{◌≡◌, ◌<◌, ◌≤◌, [], ◌++◌, ◌+◌, ◌^◌, codes, drop, get_or, length, string_bytes, IfOk, OnOk};
 ghost use Rattle.wf_model.specs.Simplex.{processes_of};
 ghost use Rattle.wf_model.specs.Task.{inputs};
 ghost use Rattle.wf_model.specs.Problem.{constraint_at};
 ghost use Rattle.wf_model.specs.Check.{place_of};
 ghost use Rattle.wf_argument.specs.Places.{place_in};
 ghost use Rattle.wf_argument.specs.State.{after_taking, left_at};
-ghost use Rattle.wf_argument.specs.Subject.{IsMatched, IsSeat, executions_in, problem_in, state_after, taking_left};
-ghost use Rattle.wf_argument.specs.Text.{claim_text, execution_text, grounds_text, indented, rest_text, told_taking};
+ghost use Rattle.wf_argument_words.specs.Subject.{IsMatched, executions_in, problem_in};
+ghost use Rattle.wf_argument.specs.Subject.{IsSeat, state_after, taking_left};
+ghost use Rattle.wf_argument_words.specs.Text.{execution_at, indented, rest_text};
+ghost use Rattle.wf_argument.specs.Text.{claim_text, grounds_text, told_taking};
 ghost use Rattle.wf_argument.specs.Trail.{state_of, values_of};
 
 use crate::grounds::Grounds;
 use crate::seat::Participant;
 use crate::state::State;
-use crate::subject::Subject;
-use crate::words::{put_any, put_margin, put_needed, put_reasons, put_rest};
+use crate::words::put_reasons;
 use std::alloc::AllocError;
 use std::fmt::Write;
+use wf_argument_words::{Subject, put_margin, put_needed, put_rest, put_values};
 use wf_task::Task;
 
 /// A step that takes values from a point of an execution.
@@ -189,16 +191,16 @@ fn put_step(
     subject: &Subject,
     step: &TakingStep,
     state: &State,
-    grounds: &Grounds,
+    grounds: &mut Grounds,
 ) -> Result<(), AllocError>
     requires subject { IsMatched subject.now }
     requires execution { step.now.execution < length subject.now.protocol.now.simplices }
     ensures { let s = state_of state.now in let v = step.now.point in let e = step.now.execution in
         let left = left_at (values_of state.now) s.gone v in
-        let tuples = grounds.now.needed.items in let reasons = grounds.now.reasons.items in
+        let tuples = grounds.old.needed.items in let reasons = grounds.old.reasons.items in
         OnOk result (string_bytes text.new ≡ string_bytes text.old
         ++ indented s.depth (claim_text s.number v step.now.values.now e
-        ++ (execution_text (slice_get (executions_in subject.now) e) ++ (codes ", "
+        ++ (execution_at (executions_in subject.now) e ++ (codes ", "
         ++ (grounds_text step.now.points.now tuples reasons ++ rest_text v left))))) }
 {
     put_margin(text, state.depth)?;
@@ -208,7 +210,7 @@ fn put_step(
         .put(text, subject.task, subject.protocol, step.execution)?;
     write!(text, ", ")?;
     put_grounds(text, step.points, grounds)?;
-    put_rest(text, step.point, state.left(step.point))?;
+    put_rest(text, step.point, state.left(step.point), &mut grounds.room)?;
     writeln!(text)?;
     Ok(())
 }
@@ -221,19 +223,19 @@ fn put_claim(text: &mut String, number: usize, step: &TakingStep) -> Result<(), 
     let point = step.point;
     let execution = step.execution;
     write!(text, "{number}. v{point} is not ")?;
-    put_any(text, step.values)?;
+    put_values(text, step.values)?;
     write!(text, ": in execution {execution}, ")?;
     Ok(())
 }
 
 /// Adds the tuples that would be needed at some points, and why none of them can be decided.
-fn put_grounds(text: &mut String, points: &[u32], grounds: &Grounds) -> Result<(), AllocError>
-    ensures { let tuples = grounds.now.needed.items in let reasons = grounds.now.reasons.items in
+fn put_grounds(text: &mut String, points: &[u32], grounds: &mut Grounds) -> Result<(), AllocError>
+    ensures { let tuples = grounds.old.needed.items in let reasons = grounds.old.reasons.items in
         OnOk result (string_bytes text.new ≡ string_bytes text.old
         ++ grounds_text points.now tuples reasons) }
 {
     put_needed(text, points, grounds.needed.as_slice())?;
-    put_reasons(text, grounds.reasons.as_slice())?;
+    put_reasons(text, grounds.reasons.as_slice(), &mut grounds.room)?;
     write!(text, ".")?;
     Ok(())
 }

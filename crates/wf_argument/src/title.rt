@@ -3,9 +3,9 @@
 ghost use Rattle.std.specs.Prelude.{◌≡◌, ◌++◌, OnOk, string_bytes};
 ghost use Rattle.wf_argument.specs.Used.{title_of, usage_of};
 
-use crate::words::put_count;
 use std::alloc::AllocError;
 use std::fmt::Write;
+use wf_argument_words::put_count;
 
 /// Adds the title.
 pub(crate) fn put_title(

@@ -1,166 +1,88 @@
-//! What an argument says, word by word.
+//! The reasons of a step, in words.
 
-ghost use Rattle.std.specs.Prelude.{◌≡◌, ◌++◌, ◌<◌, ◌+◌, decimal, length, None, OnOk, string_bytes};
-ghost use Rattle.wf_set.specs.Sets.{values_in};
-ghost use Rattle.wf_argument.specs.Text.{any_text, block_text, counted, lead_text, margin, name, needed_text, number_text, origin_text, reasons_text, rest_text, row_text, separator, tuple_text};
+ghost use Rattle.std.specs.Prelude.{◌≡◌, ◌==◌, ◌&&◌, ◌<◌, ◌≤◌, ◌∷◌, ◌++◌, drop, length, IfOk, OnOk, string_bytes};
+ghost use Rattle.wf_argument.specs.Text.{lead_text, origin_text, reasons_from, reasons_text, same_origin, values_beside};
 
 use crate::reasons::Reason;
 use std::alloc::AllocError;
 use std::fmt::Write;
-use wf_set::{Mask, first, has_two, is_empty};
-use wf_task::Row;
+use wf_argument_words::put_values;
 
-/// The most tuples that are told one by one.
-const MOST_TOLD: usize = 8;
-
-/// Adds a number of things.
-pub(crate) fn put_count(text: &mut String, count: usize, noun: &str) -> Result<(), AllocError>
-    ensures { OnOk result (string_bytes text.new
-        ≡ string_bytes text.old ++ counted count noun.now) }
-{
-    write!(text, "{count} {noun}")?;
-    if count != 1 {
-        write!(text, "s")?;
-    }
-    Ok(())
-}
-
-/// Begins a line under so many suppositions.
-pub(crate) fn put_margin(text: &mut String, depth: u8) -> Result<(), AllocError>
-    ensures { OnOk result (string_bytes text.new ≡ string_bytes text.old ++ margin depth) }
-{
-    for _level in 0..depth {
-        write!(text, "  ")?;
-    }
-    write!(text, "  ")?;
-    Ok(())
-}
-
-/// Adds those of a block, if there are some.
-pub(crate) fn put_processes(text: &mut String, processes: &[u8]) -> Result<(), AllocError>
-    ensures { OnOk result (string_bytes text.new
-        ≡ string_bytes text.old ++ block_text processes.now) }
-{
-    if processes.is_empty() {
-        return Ok(());
-    }
-    write!(text, "{{")?;
-    let length = processes.len();
-    for (place, process) in processes.iter().enumerate() {
-        let before = between(place, length, " ", " ");
-        write!(text, "{before}p{process}")?;
-    }
-    write!(text, "}}")?;
-    Ok(())
-}
-
-/// What stands before an element of a list, by its place.
-fn between(place: usize, length: usize, other: &'static str, last: &'static str) -> &'static str
-    requires { place < length }
-    ensures { result.now ≡ separator other.now last.now place length }
-{
-    if place == 0 {
-        ""
-    } else if place + 1 == length {
-        last
-    } else {
-        other
-    }
-}
-
-/// Adds values as alternatives.
-pub(crate) fn put_any(text: &mut String, values: &[u8]) -> Result<(), AllocError>
-    ensures { OnOk result (string_bytes text.new
-        ≡ string_bytes text.old ++ any_text number_text values.now) }
-{
-    let length = values.len();
-    for (place, value) in values.iter().enumerate() {
-        let before = between(place, length, ", ", " or ");
-        write!(text, "{before}{value}")?;
-    }
-    Ok(())
-}
-
-/// Adds values in a row.
-fn put_row(text: &mut String, values: &[u8]) -> Result<(), AllocError>
-    ensures { OnOk result (string_bytes text.new
-        ≡ string_bytes text.old ++ tuple_text values.now) }
-{
-    write!(text, "(")?;
-    let length = values.len();
-    for (place, value) in values.iter().enumerate() {
-        let before = between(place, length, ", ", ", ");
-        write!(text, "{before}{value}")?;
-    }
-    write!(text, ")")?;
-    Ok(())
-}
-
-/// Adds points in a row.
-fn put_points(text: &mut String, points: &[u32]) -> Result<(), AllocError>
-    ensures { OnOk result (string_bytes text.new
-        ≡ string_bytes text.old ++ row_text name points.now) }
-{
-    write!(text, "(")?;
-    let length = points.len();
-    for (place, point) in points.iter().enumerate() {
-        let before = between(place, length, ", ", ", ");
-        write!(text, "{before}v{point}")?;
-    }
-    write!(text, ")")?;
-    Ok(())
-}
-
-/// Adds the tuples that an execution would need at its points.
-pub(crate) fn put_needed(
+/// Adds the reasons, which come by point. The values that a point lost by one step are told
+/// together.
+pub(crate) fn put_reasons(
     text: &mut String,
-    points: &[u32],
-    needed: &[Row],
+    reasons: &[Reason],
+    room: &mut Vec<u8>,
 ) -> Result<(), AllocError>
     ensures { OnOk result (string_bytes text.new
-        ≡ string_bytes text.old ++ needed_text points.now needed.now) }
-{
-    if needed.is_empty() {
-        write!(text, "no tuple at ")?;
-        put_points(text, points)?;
-        write!(text, " has it")?;
-        return Ok(());
-    }
-    put_points(text, points)?;
-    write!(text, " would be ")?;
-    if needed.len() > MOST_TOLD {
-        write!(text, "one of ")?;
-        return put_count(text, needed.len(), "tuple");
-    }
-    put_rows(text, needed)
-}
-
-/// Adds tuples as alternatives.
-fn put_rows(text: &mut String, rows: &[Row]) -> Result<(), AllocError>
-    ensures { OnOk result (string_bytes text.new
-        ≡ string_bytes text.old ++ any_text tuple_text rows.now) }
-{
-    let length = rows.len();
-    for (place, row) in rows.iter().enumerate() {
-        let before = between(place, length, ", ", " or ");
-        write!(text, "{before}")?;
-        put_row(text, row.as_slice())?;
-    }
-    Ok(())
-}
-
-/// Adds the reasons, which come by point.
-pub(crate) fn put_reasons(text: &mut String, reasons: &[Reason]) -> Result<(), AllocError>
-    ensures { OnOk result (string_bytes text.new
-        ≡ string_bytes text.old ++ reasons_text None reasons.now) }
+        ≡ string_bytes text.old ++ reasons_text reasons.now) }
 {
     let mut before = None;
-    for reason in reasons {
-        put_lead(text, before, reason.point)?;
-        put_loss(text, reason)?;
-        before = Some(reason.point);
+    let mut told = 0;
+    'reasons: while told < reasons.len() {
+        told += put_alike(text, &mut before, &reasons[told..], room)?;
     }
     Ok(())
+}
+
+/// Adds the first of these reasons, and those beside it. Answers how many they are.
+fn put_alike(
+    text: &mut String,
+    before: &mut Option<u32>,
+    reasons: &[Reason],
+    room: &mut Vec<u8>,
+) -> Result<usize, AllocError>
+    requires { 0 < length reasons.now }
+    ensures text { IfOk result (λ count.
+        string_bytes text.new ++ reasons_from before.new 0 (drop count reasons.now)
+        ≡ string_bytes text.old ++ reasons_from before.old 0 reasons.now) }
+    ensures some { IfOk result (λ count. 0 < count) }
+    ensures within { IfOk result (λ count. count ≤ length reasons.now) }
+{
+    let first = reasons[0];
+    set_beside(room, first, &reasons[1..])?;
+    let values = room.as_slice();
+    put_lead(text, *before, first.point)?;
+    put_values(text, values)?;
+    put_origin(text, first.loss.step)?;
+    *before = Some(first.point);
+    Ok(values.len())
+}
+
+/// Sets the values of a reason and of those beside it.
+fn set_beside(values: &mut Vec<u8>, first: Reason, reasons: &[Reason]) -> Result<(), AllocError>
+    ensures { OnOk result (values.new.items
+        ≡ first.loss.value ∷ values_beside first reasons.now) }
+{
+    values.clear();
+    values.push(first.loss.value)?;
+    for reason in reasons {
+        if !is_beside(&first, reason) {
+            return Ok(());
+        }
+        values.push(reason.loss.value)?;
+    }
+    Ok(())
+}
+
+/// Whether two reasons are of one point and one step.
+fn is_beside(a: &Reason, b: &Reason) -> bool
+    ensures { result ≡ ((a.now.point == b.now.point)
+        && same_origin a.now.loss.step b.now.loss.step) }
+{
+    a.point == b.point && same_origin(a.loss.step, b.loss.step)
+}
+
+/// Whether two values were lost by one step, or both in this case.
+fn same_origin(a: Option<usize>, b: Option<usize>) -> bool
+    ensures { result ≡ same_origin a b }
+{
+    match (a, b) {
+        (None, None) => true,
+        (Some(m), Some(n)) => m == n,
+        _ => false,
+    }
 }
 
 /// Adds what stands before a reason: the point, unless the reason before is of the same one.
@@ -176,29 +98,13 @@ fn put_lead(text: &mut String, before: Option<u32>, point: u32) -> Result<(), Al
     Ok(())
 }
 
-/// Adds a value that is gone, and the step that took it.
-fn put_loss(text: &mut String, reason: &Reason) -> Result<(), AllocError>
-    ensures { OnOk result (string_bytes text.new
-        ≡ string_bytes text.old
-        ++ (decimal reason.now.loss.value ++ origin_text reason.now.loss.step)) }
+/// Adds the step that took values.
+fn put_origin(text: &mut String, step: Option<usize>) -> Result<(), AllocError>
+    ensures { OnOk result (string_bytes text.new ≡ string_bytes text.old ++ origin_text step) }
 {
-    let value = reason.loss.value;
-    match reason.loss.step {
-        None => write!(text, "{value} in this case")?,
-        Some(step) => write!(text, "{value} [{step}]")?,
+    match step {
+        None => write!(text, " in this case")?,
+        Some(step) => write!(text, " [{step}]")?,
     }
-    Ok(())
-}
-
-/// Adds what is said where a step leaves a point one value.
-pub(crate) fn put_rest(text: &mut String, point: u32, left: Mask) -> Result<(), AllocError>
-    ensures { OnOk result (string_bytes text.new
-        ≡ string_bytes text.old ++ rest_text point (values_in left)) }
-{
-    if is_empty(left) || has_two(left) {
-        return Ok(());
-    }
-    let value = first(left);
-    write!(text, " So v{point} is {value}.")?;
     Ok(())
 }

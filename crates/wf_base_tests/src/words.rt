@@ -21,11 +21,12 @@ const SYMMETRY_BREAKING: &str = concat!(
 /// What is told of two weighted tuples, in which all decide the same.
 const IN_WORDS: &str = concat!(
     "No decision map after any number of rounds: a count modulo 3.\n\nGive each point any ",
-    "value. In a symmetric task points are views up to the names of the processes. Count ",
-    "the executions\n  of {p0=0, p1=0, p2=0} that all decide the same.\nAn execution of n ",
-    "processes after r rounds counts with a minus sign if n * r and the number of blocks ",
-    "in its words differ by an odd number.\nThe task allows none of these decisions. But ",
-    "whatever values the points have, the count is 1 modulo 3. So it is not 0.\n",
+    "value of an output. In a symmetric task points are views up to the names of the ",
+    "processes. Count the executions\n  of {p0=0, p1=0, p2=0} that all decide the same.\n",
+    "An execution of n processes after r rounds counts with a minus sign if n * r and the ",
+    "number of blocks in its words differ by an odd number.\nThe task allows none of these ",
+    "decisions. But whichever of these values the points have, the count is 1 modulo 3. So ",
+    "it is not 0.\n",
 );
 
 #[test]

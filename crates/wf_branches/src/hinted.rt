@@ -15,7 +15,7 @@ use wf_io::{Sink, Source};
 use wf_posing::pose_branch_hints;
 use wf_run::{RunFault, SecondText, run_over_both};
 use wf_task::Task;
-use wf_verify_engine::read_hints_from;
+use wf_verify_engine::{ProofListener, read_hints_from};
 
 /// Reads a task to its reader's end, and then a SAT solver's proof with hints to its own reader's
 /// end; follows the hints of each clause over the formula of one branch of the task's question
@@ -24,31 +24,36 @@ use wf_verify_engine::read_hints_from;
 /// are.
 ///
 /// A branch that is not there is refused before the proof is read, with how many branches there
-/// are.
-pub fn run_hinted_proof_branch<R: Read, C: Read, W: Write>(
+/// are. If there is a listener, it is told how the check goes on.
+pub fn run_hinted_proof_branch<L: ProofListener, R: Read, C: Read, W: Write>(
     alloc: Global,
     task_source: &mut Source<R>,
     proof_source: &mut Source<C>,
     sink: &mut Sink<W>,
     rounds: u32,
     branch: u32,
+    listener: Option<&L>,
 ) -> Result<(), RunFault>
     requires { CanReadBoth task_source.old proof_source.old sink.old }
     ensures { RefutesBranchByHints rounds branch task_source.old task_source.new
         proof_source.old proof_source.new sink.old sink.new result }
 {
-    let none = NoneInBranchByHints { number: branch };
+    let none = NoneInBranchByHints {
+        number: branch,
+        listener,
+    };
     run_over_both(alloc, task_source, proof_source, sink, rounds, &none)
 }
 
 /// That no decision map is accepted in the branch of this number, if a solver's proof with hints
 /// shows it.
 #[derive(Clone, Copy)]
-struct NoneInBranchByHints {
+struct NoneInBranchByHints<'a, L> {
     number: u32,
+    listener: Option<&'a L>,
 }
 
-impl SecondText for NoneInBranchByHints {
+impl<'a, L: ProofListener> SecondText for NoneInBranchByHints<'a, L> {
     ghost reads = { λ none. ReadsHintsIn none.number };
 
     fn read_about<C: Read>(
@@ -59,18 +64,19 @@ impl SecondText for NoneInBranchByHints {
         source: &mut Source<C>,
     ) -> Result<((), Vec<u8>), RunFault> {
         let branch = branch_of(alloc, task, protocol, self.number)?;
-        refute(alloc, task, protocol, &branch, source)
+        refute(alloc, task, protocol, &branch, source, self.listener)
     }
 }
 
 /// The line that no decision map is accepted in a branch, where a source's proof with hints shows
 /// it on a task's protocol complex.
-fn refute<C: Read>(
+fn refute<L: ProofListener, C: Read>(
     alloc: Global,
     task: &Task,
     protocol: &Protocol,
     branch: &FoundBranch,
     source: &mut Source<C>,
+    listener: Option<&L>,
 ) -> Result<((), Vec<u8>), RunFault>
     requires source { CanRead source.old }
     requires protocol { IsProtocol task.now protocol.now.rounds protocol.now }
@@ -79,7 +85,7 @@ fn refute<C: Read>(
         source.old source.new (answered result) }
 {
     let checker = pose_branch_hints(alloc, task, protocol, &branch.sets)?;
-    read_hints_from(alloc, source, checker)?;
+    read_hints_from(alloc, source, checker, listener)?;
     let index = branch.index();
     let text = index.accepted(alloc, "accepted none", protocol.rounds())?;
     Ok(((), text.into_bytes()))

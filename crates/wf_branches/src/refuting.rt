@@ -15,7 +15,7 @@ use wf_io::{Sink, Source};
 use wf_posing::pose_branch;
 use wf_run::{RunFault, SecondText, run_over_both};
 use wf_task::Task;
-use wf_verify_engine::read_proof_from;
+use wf_verify_engine::{ProofListener, read_proof_from};
 
 /// Reads a task to its reader's end, and then a SAT solver's clausal proof to its own reader's end.
 /// Checks each lemma, by unit propagation or as a resolution asymmetric tautology, over the formula
@@ -24,30 +24,35 @@ use wf_verify_engine::read_proof_from;
 /// whatever the proof's bytes are.
 ///
 /// A branch that is not there is refused before the proof is read, with how
-/// many branches there are.
-pub fn run_proof_branch<R: Read, C: Read, W: Write>(
+/// many branches there are. If there is a listener, it is told how the check goes on.
+pub fn run_proof_branch<L: ProofListener, R: Read, C: Read, W: Write>(
     alloc: Global,
     task_source: &mut Source<R>,
     proof_source: &mut Source<C>,
     sink: &mut Sink<W>,
     rounds: u32,
     branch: u32,
+    listener: Option<&L>,
 ) -> Result<(), RunFault>
     requires { CanReadBoth task_source.old proof_source.old sink.old }
     ensures { RefutesBranch rounds branch task_source.old task_source.new
         proof_source.old proof_source.new sink.old sink.new result }
 {
-    let none = NoneInBranch { number: branch };
+    let none = NoneInBranch {
+        number: branch,
+        listener,
+    };
     run_over_both(alloc, task_source, proof_source, sink, rounds, &none)
 }
 
 /// That no decision map is accepted in the branch of this number, if a solver's proof shows it.
 #[derive(Clone, Copy)]
-struct NoneInBranch {
+struct NoneInBranch<'a, L> {
     number: u32,
+    listener: Option<&'a L>,
 }
 
-impl SecondText for NoneInBranch {
+impl<'a, L: ProofListener> SecondText for NoneInBranch<'a, L> {
     ghost reads = { λ none. ReadsProofIn none.number };
 
     fn read_about<C: Read>(
@@ -58,18 +63,19 @@ impl SecondText for NoneInBranch {
         source: &mut Source<C>,
     ) -> Result<((), Vec<u8>), RunFault> {
         let branch = branch_of(alloc, task, protocol, self.number)?;
-        refute(alloc, task, protocol, &branch, source)
+        refute(alloc, task, protocol, &branch, source, self.listener)
     }
 }
 
 /// The line that no decision map is accepted in a branch, where a source's proof shows it on a
 /// task's protocol complex.
-fn refute<C: Read>(
+fn refute<L: ProofListener, C: Read>(
     alloc: Global,
     task: &Task,
     protocol: &Protocol,
     branch: &FoundBranch,
     source: &mut Source<C>,
+    listener: Option<&L>,
 ) -> Result<((), Vec<u8>), RunFault>
     requires source { CanRead source.old }
     requires protocol { IsProtocol task.now protocol.now.rounds protocol.now }
@@ -78,7 +84,7 @@ fn refute<C: Read>(
         source.old source.new (answered result) }
 {
     let checker = pose_branch(alloc, task, protocol, &branch.sets)?;
-    read_proof_from(alloc, source, checker)?;
+    read_proof_from(alloc, source, checker, listener)?;
     let index = branch.index();
     let text = index.accepted(alloc, "accepted none", protocol.rounds())?;
     Ok(((), text.into_bytes()))

@@ -7,6 +7,8 @@ use Rattle.wf_verify_engine.proofs.CertificateCounts.{certified}
 use Rattle.wf_verify_engine.proofs.ProofCounts.{proved}
 use Rattle.wf_verify_engine.proofs.HintCounts.{proved_by_hints}
 use Rattle.wf_model.specs.Limits.{most_bytes}
+use Rattle.wf_long.specs.Long.{most_report_bytes}
+use Rattle.wf_long.proofs.LongCounts.{long_counted}
 use Rattle.wf_words.specs.declared.fault.WordsFault.{WordsFault}
 use Rattle.wf_files.specs.Files.{Filing, Opens}
 use Rattle.wf_files.specs.Laws.{Checked, IsFiled, IsFileRun}
@@ -16,7 +18,7 @@ use Rattle.wf_service.specs.declared.refusal.Refusal.{Refusal}
 use Rattle.wf_service.specs.Laws.{IsDeclined, calls_by, calls_by_status}
 use Rattle.wf_service.proofs.DeclinedWords.{calls_of_fault, declined, has_status, two_or_three}
 use Rattle.wf_checker_args.specs.declared.job.Check.{Check}
-use Rattle.wf_checker_args.specs.declared.job.Check.TheVariants.{Certificate, Proof, HintedProof}
+use Rattle.wf_checker_args.specs.declared.job.Check.TheVariants.{Certificate, LongReport, Proof, HintedProof}
 use Rattle.wf_checker_args.specs.declared.job.CheckJob.{CheckJob}
 use Rattle.wf_checker.specs.Checker.{Checks, DoesCheck, EndsCheck}
 use Rattle.wf_checker.specs.Laws.{IsCheckServed, files_of, most_given, most_of}
@@ -25,6 +27,8 @@ use Rattle.wf_checker.specs.Laws.{IsCheckServed, files_of, most_given, most_of}
 checked : (check : Check) → Checked (most_of check) (Checks check)
 checked (Certificate rounds) task task' source source' sink sink' result (answer, does, is) =
     without most_bytes task task' source source' sink sink' answer result is (certified rounds task task' source source' sink sink' answer does)
+checked (LongReport rounds) task task' source source' sink sink' result (answer, does, is) =
+    without most_report_bytes task task' source source' sink sink' answer result is (long_counted rounds task task' source source' sink sink' answer does)
 checked (Proof rounds) task task' source source' sink sink' result does = proved rounds task task' source source' sink sink' result does
 checked (HintedProof rounds) task task' source source' sink sink' result does = proved_by_hints rounds task task' source source' sink sink' result does
 

@@ -7,10 +7,13 @@ use Rattle.wf_run.specs.declared.fault.RunFault.TheVariants.{Read}
 use Rattle.wf_verify_engine.specs.Certificates.{VerifiesCertificate}
 use Rattle.wf_verify_engine.specs.declared.outcome.Verified.{Verified}
 use Rattle.wf_verify_engine.specs.declared.outcome.Verified.TheVariants as verified
+use Rattle.wf_verify_engine.specs.declared.outcome.Accepted.{Accepted}
 use Rattle.wf_verify_engine.proofs.Headline.{acceptances_true}
 use Rattle.wf_verify_engine.proofs.CertificatesAreTrue.{obstructions_true, reports_verified}
 use Rattle.wf_verify_engine.proofs.RefutationsAreTrue.{refutations_true}
 use Rattle.wf_verify_engine.proofs.HintCounts.{hinted_refutations_true}
+use Rattle.wf_long.specs.Long.{VerifiesLong}
+use Rattle.wf_long.proofs.LongHeadline.{long_acceptances_true}
 use Rattle.wf_words.specs.declared.fault.WordsFault.{WordsFault}
 use Rattle.wf_files.specs.Files.{Filing, Opens, unread}
 use Rattle.wf_files.specs.FileRuns.{WithFile, without_answer}
@@ -18,7 +21,7 @@ use Rattle.wf_service.specs.Refusals.{as_refusal}
 use Rattle.wf_service.specs.declared.refusal.Refusal.{Refusal}
 use Rattle.wf_service.proofs.DeclinedWords.{has_status}
 use Rattle.wf_checker_args.specs.declared.job.Check.{Check}
-use Rattle.wf_checker_args.specs.declared.job.Check.TheVariants.{Certificate, Proof, HintedProof}
+use Rattle.wf_checker_args.specs.declared.job.Check.TheVariants.{Certificate, LongReport, Proof, HintedProof}
 use Rattle.wf_checker_args.specs.declared.job.CheckJob.{CheckJob}
 use Rattle.wf_checker.specs.Checker.{Checks, DoesCheck, EndsCheck}
 use Rattle.wf_checker.specs.Headline.{IsTrue, IsTrueOf}
@@ -32,8 +35,16 @@ module _ (task task' source source' : Reading) (sink sink' : Writing) where
   of_certificate rounds (Ok verified.Obstruction) does is = inr (obstructions_true rounds task task' source source' sink sink' does)
   of_certificate rounds (Err e) does is = absurd (let bad : ⊥ = cc in bad)
 
+  of_long : (rounds : Option ℕ) (answer : Result Accepted RunFault) → VerifiesLong rounds task task' source source' sink sink' answer → Ok tt ≡ without_answer answer
+      → IsTrue (LongReport rounds) task task' source source' sink sink'
+  of_long rounds (Ok accepted) does is =
+      let said = long_acceptances_true rounds task task' source source' sink sink' accepted does in
+      (said.0, said.1, said.2, said.3, said.4, said.6)
+  of_long rounds (Err e) does is = absurd (let bad : ⊥ = cc in bad)
+
   pub of_check : (check : Check) → Checks check task task' source source' sink sink' (Ok tt) → IsTrue check task task' source source' sink sink'
   of_check (Certificate rounds) (answer, does, is) = of_certificate rounds answer does is
+  of_check (LongReport rounds) (answer, does, is) = of_long rounds answer does is
   of_check (Proof rounds) does = refutations_true rounds task task' source source' sink sink' does
   of_check (HintedProof rounds) does = hinted_refutations_true rounds task task' source source' sink sink' does
 

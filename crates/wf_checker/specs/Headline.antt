@@ -15,7 +15,7 @@ use Rattle.wf_files.specs.Files.{Filing, Opens, after_asking, unread}
 use Rattle.wf_checker_args.specs.Asked.{job_asked}
 use Rattle.wf_checker.specs.Checker.{ServesCheck}
 use Rattle.wf_checker_args.specs.declared.job.Check.{Check}
-use Rattle.wf_checker_args.specs.declared.job.Check.TheVariants.{Certificate, Proof, HintedProof}
+use Rattle.wf_checker_args.specs.declared.job.Check.TheVariants.{Certificate, LongReport, Proof, HintedProof}
 use Rattle.wf_checker_args.specs.declared.job.CheckJob.{CheckJob}
 
 -- The sources gave a task and the text of a true report about it, which is about the rounds that
@@ -41,6 +41,7 @@ IsTrueProof rounds task task' sink sink' =
 abbrev pub IsTrue : Check → Reading → Reading → Reading → Reading → Writing → Writing → Type 0
 IsTrue (Certificate rounds) task task' source source' sink sink' =
     IsTrueReport rounds task task' source source' sink sink' ⊎ IsTrueObstruction rounds task task' sink sink'
+IsTrue (LongReport rounds) task task' source source' sink sink' = IsTrueReport rounds task task' source source' sink sink'
 IsTrue (Proof rounds) task task' source source' sink sink' = IsTrueProof rounds task task' sink sink'
 IsTrue (HintedProof rounds) task task' source source' sink sink' = IsTrueProof rounds task task' sink sink'
 

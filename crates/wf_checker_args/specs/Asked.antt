@@ -10,7 +10,7 @@ use Rattle.wf_words.specs.declared.mistake.Mistake.{Mistake}
 use Rattle.wf_words.specs.declared.mistake.Mistake.TheVariants as mistake
 use Rattle.wf_checker_args.specs.CommandLine.{command_line}
 use Rattle.wf_checker_args.specs.declared.job.Check.{Check}
-use Rattle.wf_checker_args.specs.declared.job.Check.TheVariants.{Certificate, Proof, HintedProof}
+use Rattle.wf_checker_args.specs.declared.job.Check.TheVariants.{Certificate, LongReport, Proof, HintedProof}
 use Rattle.wf_checker_args.specs.declared.job.CheckJob.{CheckJob}
 
 -- a clausal proof of one kind, for the rounds that it needs
@@ -18,15 +18,18 @@ abbrev pub proof_for : Piece → (ℕ → Check) → Option ℕ → Result Check
 proof_for flag check (Some rounds) = Ok (check rounds)
 proof_for flag check None = Err (mistake.Needs flag piece.Rounds)
 
--- what is checked, by `--proof` and `--lrat`, of which one at most may be given
-abbrev pub check_for : Bool → Bool → Option ℕ → Result Check Mistake
-check_for false false rounds = Ok (Certificate rounds)
-check_for true false rounds = proof_for piece.Proof Proof rounds
-check_for false true rounds = proof_for piece.Lrat HintedProof rounds
-check_for true true rounds = Err (mistake.Beside piece.Proof piece.Lrat)
+-- what is checked, by `--proof`, `--lrat` and `--long`, of which one at most may be given
+abbrev pub check_for : Bool → Bool → Bool → Option ℕ → Result Check Mistake
+check_for false false false rounds = Ok (Certificate rounds)
+check_for false false true rounds = Ok (LongReport rounds)
+check_for true false false rounds = proof_for piece.Proof Proof rounds
+check_for false true false rounds = proof_for piece.Lrat HintedProof rounds
+check_for true true long rounds = Err (mistake.Beside piece.Proof piece.Lrat)
+check_for true false true rounds = Err (mistake.Beside piece.Long piece.Proof)
+check_for false true true rounds = Err (mistake.Beside piece.Long piece.Lrat)
 
 abbrev pub check_in : List Row → Result Check Mistake
-check_in rows = check_for (has_flag (codes "proof") rows) (has_flag (codes "lrat") rows) (rounds_of rows)
+check_in rows = check_for (has_flag (codes "proof") rows) (has_flag (codes "lrat") rows) (has_flag (codes "long") rows) (rounds_of rows)
 
 -- this check of the task in a file, or the mistake by which there is none
 abbrev pub check_on : Text → Result Check Mistake → Asked CheckJob

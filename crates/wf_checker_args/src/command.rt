@@ -38,12 +38,20 @@ pub(crate) fn whole_command<'a>(alloc: Global) -> Result<Command<'a>, AllocError
             "The certificate is a clausal proof (DRAT), as solvers write it with --no-binary",
         ),
     );
-    taking(
+    let command = taking(
         command,
         flag(
             alloc,
             "lrat",
             "The certificate is a clausal proof with hints (LRAT), as text; not beside --proof",
+        ),
+    );
+    taking(
+        command,
+        flag(
+            alloc,
+            "long",
+            "The certificate is a report, which is checked while it is read, whatever its length",
         ),
     )
 }

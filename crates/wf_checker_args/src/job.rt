@@ -16,6 +16,8 @@ use wf_words::{Mistake, Piece, WordsFault, missing, parse};
 pub enum Check {
     /// A report or an obstruction, for these rounds if any are asked for.
     Certificate(Option<u32>),
+    /// A report of any length, for these rounds if any are asked for.
+    LongReport(Option<u32>),
     /// A solver's clausal proof that there is no decision map after so many rounds.
     Proof(u32),
     /// A solver's clausal proof with hints that there is no decision map after so many rounds.
@@ -60,21 +62,28 @@ fn job_in(alloc: Global, found: &ArgMatches<'_>) -> Result<CheckJob, WordsFault>
 }
 
 /// What is checked, by the options that are given. A clausal proof needs the rounds, and is one
-/// with hints or one without.
+/// with hints or one without. A report alone may be a long one.
 fn check_in(found: &ArgMatches<'_>) -> Result<Check, Mistake>
     ensures { result ≡ check_in (rows_of (found_of found.now)) }
 {
     let rounds = number(found, "rounds");
-    match (flag(found, "proof"), flag(found, "lrat")) {
-        (false, false) => Ok(Check::Certificate(rounds)),
-        (true, false) => match rounds {
+    match (
+        flag(found, "proof"),
+        flag(found, "lrat"),
+        flag(found, "long"),
+    ) {
+        (false, false, false) => Ok(Check::Certificate(rounds)),
+        (false, false, true) => Ok(Check::LongReport(rounds)),
+        (true, false, false) => match rounds {
             Some(rounds) => Ok(Check::Proof(rounds)),
             None => Err(Mistake::Needs(Piece::Proof, Piece::Rounds)),
         },
-        (false, true) => match rounds {
+        (false, true, false) => match rounds {
             Some(rounds) => Ok(Check::HintedProof(rounds)),
             None => Err(Mistake::Needs(Piece::Lrat, Piece::Rounds)),
         },
-        (true, true) => Err(Mistake::Beside(Piece::Proof, Piece::Lrat)),
+        (true, true, _) => Err(Mistake::Beside(Piece::Proof, Piece::Lrat)),
+        (true, false, true) => Err(Mistake::Beside(Piece::Long, Piece::Proof)),
+        (false, true, true) => Err(Mistake::Beside(Piece::Long, Piece::Lrat)),
     }
 }

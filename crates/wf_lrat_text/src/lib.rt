@@ -9,6 +9,7 @@
 
 mod numbers;
 mod reader;
+mod turns;
 
 pub use numbers::MOST_NUMBER;
 pub use reader::{HintFlaw, HintPart, HintReader, HintReading, HintTurn};

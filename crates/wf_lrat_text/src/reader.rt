@@ -1,14 +1,15 @@
 //! The text of a clausal proof with hints, byte by byte.
 
-ghost use Rattle.std.specs.Prelude.{◌≡◌, ◌<◌, ◌≤◌, IfOk, IsTrue, length};
-ghost use Rattle.std.specs.Char.{is_ascii_digit};
-ghost use Rattle.wf_drat.specs.Codes.{most_variables};
-ghost use Rattle.wf_drat.specs.Text.{is_blank, is_of_text};
+ghost use Rattle.std.specs.Prelude.{◌≡◌, ◌<◌, ◌≤◌, IfOk, length};
 ghost use Rattle.wf_lrat_text.specs.Moves.{Moves, MovesOverNumber, is_last};
-ghost use Rattle.wf_lrat_text.specs.Text.{after, at_start, comment_turn, digit_turn, first_turn, id_turn, kind_turn, literal_turn, mark_turn, name_turn, next_line, number_turn, other_turn_in, sign_turn, state_after, stray_turn, turn_of};
+ghost use Rattle.wf_lrat_text.specs.Text.{after, at_start, first_turn, literal_turn, next_line, number_turn, other_turn_in, state_after, turn_of};
 ghost use Rattle.wf_lrat_text.specs.declared.reader.HintTurn.TheVariants.{Ends};
 
-use crate::numbers::{number_from, with_digit};
+use crate::numbers::number_from;
+use crate::turns::{
+    comment_turn, digit_turn, id_turn, is_blank, kind_turn, mark_turn, name_turn, sign_turn,
+    stray_turn,
+};
 use std::alloc::{AllocError, Global};
 use std::marker::Model;
 use wf_drat::{Literal, MOST_VARIABLES};
@@ -376,131 +377,4 @@ fn is_last(turn: &HintTurn) -> bool
     ensures { result ≡ is_last turn.now }
 {
     matches!(*turn, HintTurn::Ends | HintTurn::Stops { flaw: _ })
-}
-
-/// What a number comes to where a step begins.
-#[inline(always)]
-fn id_turn(is_negative: bool, value: u64) -> HintTurn
-    ensures { result ≡ id_turn is_negative value }
-{
-    if is_negative {
-        HintTurn::Stops {
-            flaw: HintFlaw::NotALiteral,
-        }
-    } else {
-        HintTurn::Begins { id: value }
-    }
-}
-
-/// What a number comes to among ids.
-#[inline(always)]
-fn name_turn(flaw: HintFlaw, is_negative: bool, value: u64) -> HintTurn
-    ensures { result ≡ name_turn flaw is_negative value }
-{
-    if value == 0 {
-        if is_negative {
-            HintTurn::Stops {
-                flaw: HintFlaw::NotALiteral,
-            }
-        } else {
-            HintTurn::Ends
-        }
-    } else if is_negative {
-        HintTurn::Stops { flaw }
-    } else {
-        HintTurn::Names { id: value }
-    }
-}
-
-/// What a byte comes to in a comment.
-fn comment_turn(byte: u8) -> HintTurn
-    ensures { result ≡ comment_turn byte }
-{
-    if byte == b'\n' {
-        HintTurn::GoesOn {
-            reading: HintReading::Blank,
-        }
-    } else {
-        HintTurn::GoesOn {
-            reading: HintReading::Comment,
-        }
-    }
-}
-
-/// What a byte comes to behind a sign.
-fn sign_turn(byte: u8) -> HintTurn
-    ensures { result ≡ sign_turn byte }
-{
-    if byte.is_ascii_digit() {
-        digit_turn(true, 0, byte)
-    } else {
-        stray_turn(byte)
-    }
-}
-
-/// What a byte comes to between two steps.
-fn mark_turn(byte: u8) -> HintTurn
-    ensures { result ≡ mark_turn byte }
-{
-    match byte {
-        // the second is how PicoSAT begins the first line
-        b'c' | b'%' => HintTurn::GoesOn {
-            reading: HintReading::Comment,
-        },
-        // the mark of a clause in the binary form
-        b'a' => HintTurn::Stops {
-            flaw: HintFlaw::Binary,
-        },
-        _ => stray_turn(byte),
-    }
-}
-
-/// What a byte comes to behind an id and so many literals.
-fn kind_turn(literals: usize, byte: u8) -> HintTurn
-    ensures { result ≡ kind_turn literals byte }
-{
-    if literals == 0 && byte == b'd' {
-        HintTurn::BeginsDeletion
-    } else {
-        stray_turn(byte)
-    }
-}
-
-/// What a byte comes to that stands in no number.
-fn stray_turn(byte: u8) -> HintTurn
-    ensures { result ≡ stray_turn byte }
-{
-    let flaw = if is_of_text(byte) {
-        HintFlaw::NotALiteral
-    } else {
-        HintFlaw::Binary
-    };
-    HintTurn::Stops { flaw }
-}
-
-/// A number with one digit more.
-#[inline]
-fn digit_turn(is_negative: bool, value: u64, digit: u8) -> HintTurn
-    requires { IsTrue (is_ascii_digit digit) }
-    ensures { result ≡ digit_turn is_negative value digit }
-{
-    let value = with_digit(value, digit);
-    HintTurn::GoesOn {
-        reading: HintReading::Number { is_negative, value },
-    }
-}
-
-/// Whether the byte stands between words.
-#[inline(always)]
-fn is_blank(byte: u8) -> bool
-    ensures { result ≡ is_blank byte }
-{
-    byte == b' ' || byte == b'\t' || byte == b'\r' || byte == b'\n'
-}
-
-/// Whether a text may have the byte: no other control characters, and none of 7F and above.
-fn is_of_text(byte: u8) -> bool
-    ensures { result ≡ is_of_text byte }
-{
-    is_blank(byte) || (b' ' <= byte && byte <= b'~')
 }

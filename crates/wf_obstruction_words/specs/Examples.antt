@@ -66,11 +66,11 @@ no_such_simplex = refl
 abbrev summing_to_one : ℕ → ℕ → ℕ → List WeightedTuple → Obstruction
 summing_to_one processes simplices modulus tuples = record { processes = processes; simplices = simplices; modulus = modulus; sum = 1; tuples = tuples }
 
-pub set_agreement_in_words : argument_text (set_agreement 3 2 own) (summing_to_one 3 7 2 three_decide_three) ≡ codes "No decision map after any number of rounds: a count modulo 2.\n\nGive each point any value. Count the executions\n  of {p1=1} that decide 0 or 2,\n  of {p2=2} that decide 1,\n  of {p0=0, p1=1} that decide 1 2 or 2 1,\n  of {p0=0, p2=2} that decide 1 2 or 2 1,\n  of {p1=1, p2=2} that decide 0 1 or 1 0,\n  of {p0=0, p1=1, p2=2} that decide 0, 1 and 2, one each.\nThe task allows none of these decisions. But whatever values the points have, the count is 1 modulo 2. So it is not 0.\n"
+pub set_agreement_in_words : argument_text (set_agreement 3 2 own) (summing_to_one 3 7 2 three_decide_three) ≡ codes "No decision map after any number of rounds: a count modulo 2.\n\nGive each point any value of an output. Count the executions\n  of {p1=1} that decide 0 or 2,\n  of {p2=2} that decide 1,\n  of {p0=0, p1=1} that decide 1 2 or 2 1,\n  of {p0=0, p2=2} that decide 1 2 or 2 1,\n  of {p1=1, p2=2} that decide 0 1 or 1 0,\n  of {p0=0, p1=1, p2=2} that decide 0, 1 and 2, one each.\nThe task allows none of these decisions. But whichever of these values the points have, the count is 1 modulo 2. So it is not 0.\n"
 unfolding digits
 set_agreement_in_words = refl
 
-pub symmetry_breaking_in_words : argument_text (symmetry_breaking 3) (summing_to_one 3 7 3 three_alike) ≡ codes "No decision map after any number of rounds: a count modulo 3.\n\nGive each point any value. In a symmetric task points are views up to the names of the processes. Count the executions\n  of {p0=0, p1=0, p2=0} that all decide the same.\nAn execution of n processes after r rounds counts with a minus sign if n * r and the number of blocks in its words differ by an odd number.\nThe task allows none of these decisions. But whatever values the points have, the count is 1 modulo 3. So it is not 0.\n"
+pub symmetry_breaking_in_words : argument_text (symmetry_breaking 3) (summing_to_one 3 7 3 three_alike) ≡ codes "No decision map after any number of rounds: a count modulo 3.\n\nGive each point any value of an output. In a symmetric task points are views up to the names of the processes. Count the executions\n  of {p0=0, p1=0, p2=0} that all decide the same.\nAn execution of n processes after r rounds counts with a minus sign if n * r and the number of blocks in its words differ by an odd number.\nThe task allows none of these decisions. But whichever of these values the points have, the count is 1 modulo 3. So it is not 0.\n"
 unfolding digits
 symmetry_breaking_in_words = refl
 

@@ -143,7 +143,7 @@ abbrev pub points_text : Bool → List ℕ
 points_text symmetric = if symmetric then codes " In a symmetric task points are views up to the names of the processes." else []
 
 abbrev pub count_text : Bool → List ℕ
-count_text symmetric = codes "Give each point any value." ++ (points_text symmetric ++ codes " Count the executions")
+count_text symmetric = codes "Give each point any value of an output." ++ (points_text symmetric ++ codes " Count the executions")
 
 -- modulo 2 an execution counts the same with either sign
 abbrev pub signs_text : ℕ → List ℕ
@@ -154,7 +154,7 @@ signs_text modulus =
 
 abbrev pub sum_text : ℕ → ℕ → List ℕ
 sum_text modulus sum =
-    codes "The task allows none of these decisions. But whatever values the points have, the count is "
+    codes "The task allows none of these decisions. But whichever of these values the points have, the count is "
     ++ (decimal sum ++ (codes " modulo " ++ (decimal modulus ++ codes ". So it is not 0.\n")))
 
 abbrev pub argument_text : Task → Obstruction → List ℕ

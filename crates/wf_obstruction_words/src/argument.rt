@@ -48,7 +48,7 @@ fn put_count(text: &mut String, symmetric: bool) -> Result<(), AllocError>
     ensures { OnOk result (string_bytes text.new
         ≡ string_bytes text.old ++ count_text symmetric) }
 {
-    write!(text, "Give each point any value.")?;
+    write!(text, "Give each point any value of an output.")?;
     put_points(text, symmetric)?;
     write!(text, " Count the executions")?;
     Ok(())
@@ -88,7 +88,7 @@ fn put_sum(text: &mut String, modulus: u32, sum: u32) -> Result<(), AllocError>
 {
     write!(
         text,
-        "The task allows none of these decisions. But whatever values the points have, the count is {sum} modulo {modulus}. So it is not 0.\n"
+        "The task allows none of these decisions. But whichever of these values the points have, the count is {sum} modulo {modulus}. So it is not 0.\n"
     )?;
     Ok(())
 }

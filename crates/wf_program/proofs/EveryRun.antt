@@ -1,5 +1,5 @@
 -- What holds after every run of the program.
-use Rattle.std.proofs.Common.{◌≡◌, ◌≢◌, ℕ, true, false, ◌+◌, ◌≤◌, inl, inr, Option, Some, None, Result, Ok, Err, IfOk, IfErr, refl, sym, ap, subst, ◌∙◌, arith}
+use Rattle.std.proofs.Common.{◌≡◌, ◌≢◌, ℕ, Bool, true, false, ◌+◌, ◌≤◌, inl, inr, Option, Some, None, Result, Ok, Err, IfOk, IfErr, refl, sym, ap, subst, ◌∙◌, arith}
 use Rattle.std.specs.Prelude.{string_bytes}
 use Rattle.wf_model.specs.Limits.{most_bytes}
 use Rattle.wf_model.specs.ViewsText.{views_text}
@@ -7,7 +7,9 @@ use Rattle.wf_formula.specs.Dimacs.{question_text}
 use Rattle.wf_formula.specs.Branches.{branch_text}
 use Rattle.wf_core.specs.declared.Account.{Account}
 use Rattle.wf_io.specs.Seen.{Reading, Writing}
-use Rattle.wf_argument.specs.Listing.{executions_text}
+use Rattle.wf_argument_words.specs.Listing.{executions_text}
+use Rattle.wf_long.specs.Long.{most_report_bytes}
+use Rattle.wf_long.proofs.LongCounts.{long_counted}
 use Rattle.wf_words.specs.declared.fault.WordsFault.{WordsFault}
 use Rattle.wf_args.specs.declared.Job.{Job}
 use Rattle.wf_args.specs.declared.Job.TheVariants as job
@@ -55,12 +57,13 @@ use Rattle.wf_program.specs.declared.filed.FileJob.{FileJob}
 use Rattle.wf_program.specs.declared.filed.FileJob.TheVariants as filed
 use Rattle.wf_program.specs.declared.texts.TextJob.{TextJob}
 use Rattle.wf_program.specs.declared.texts.TextJob.TheVariants as text
-use Rattle.wf_program.specs.Program.{DoesAsked, DoesWithFile, Ends, ListsQuestion, WritesTextOf, searched, shown, solved, sought, written}
+use Rattle.wf_program.specs.Program.{ChecksProofBy, DoesAsked, DoesWithFile, Ends, ListsQuestion, WritesTextOf, searched, shown, solved, sought, written}
 use Rattle.wf_program.specs.Laws.{IsServed, file_count, most_read}
 
 -- how many bytes the text may have that is read of the source
 abbrev most_with : FileJob → ℕ
-most_with (filed.Proof rounds branch hints) = most_proof_bytes
+most_with (filed.VerifyLong rounds) = most_report_bytes
+most_with (filed.Proof asked) = most_proof_bytes
 most_with (filed.Join rounds) = most_parts_bytes
 most_with f = most_bytes
 
@@ -167,17 +170,24 @@ module _ {F : Type 0} (folder folder' : Filing F) (same : folder' ≡ folder) (s
       let failures = h.failures in
       record { failed = 0; filed = files.unasked folder folder' same; answered = tt; failures = omega (arith, reads, failures); taken = omega (arith, takes); unwritten = h.unwritten }
 
+-- what is counted of a check of a proof
+proof_counted : (rounds : ℕ) (branch : Option ℕ) (hints : Bool) → Checked most_proof_bytes (ChecksProofBy rounds branch hints)
+proof_counted rounds None false file file' source source' sink sink' result does = proved rounds file file' source source' sink sink' result does
+proof_counted rounds (Some branch) false file file' source source' sink sink' result does = branch_proved rounds branch file file' source source' sink sink' result does
+proof_counted rounds None true file file' source source' sink sink' result does = proved_by_hints rounds file file' source source' sink sink' result does
+proof_counted rounds (Some branch) true file file' source source' sink sink' result does = branch_proved_by_hints rounds branch file file' source source' sink sink' result does
+
 -- what is counted of each job with the task in a file
 did_with : (f : FileJob) → Checked (most_with f) (DoesWithFile f)
 did_with (filed.Verify rounds) file file' source source' sink sink' result (answer, does, is) =
     files.without most_bytes file file' source source' sink sink' answer result is (certified rounds file file' source source' sink sink' answer does)
+did_with (filed.VerifyLong rounds) file file' source source' sink sink' result (answer, does, is) =
+    files.without most_report_bytes file file' source source' sink sink' answer result is (long_counted rounds file file' source source' sink sink' answer does)
 did_with (filed.VerifyBranch rounds branch) file file' source source' sink sink' result does = part_checked rounds branch file file' source source' sink sink' result does
 did_with (filed.Join rounds) file file' source source' sink sink' result does = joining_counted rounds file file' source source' sink sink' result does
 did_with (filed.Model rounds) file file' source source' sink sink' result does = modelled rounds file file' source source' sink sink' result does
-did_with (filed.Proof rounds None false) file file' source source' sink sink' result does = proved rounds file file' source source' sink sink' result does
-did_with (filed.Proof rounds (Some branch) false) file file' source source' sink sink' result does = branch_proved rounds branch file file' source source' sink sink' result does
-did_with (filed.Proof rounds None true) file file' source source' sink sink' result does = proved_by_hints rounds file file' source source' sink sink' result does
-did_with (filed.Proof rounds (Some branch) true) file file' source source' sink sink' result does = branch_proved_by_hints rounds branch file file' source source' sink sink' result does
+did_with (filed.Proof asked) file file' source source' sink sink' result does =
+    proof_counted asked.rounds asked.branch asked.hints file file' source source' sink sink' result does
 did_with filed.Decisions file file' source source' sink sink' result does = checked None AreDecisions file file' source source' sink sink' result does
 did_with filed.Trim file file' source source' sink sink' result does = checked None AreTrimmed file file' source source' sink sink' result does
 did_with filed.Explain file file' source source' sink sink' result does = explained_counted file file' source source' sink sink' result does
@@ -233,10 +243,11 @@ did opens folder folder' source source' sink sink' (Ok (job.Cnf rounds branch)) 
 did opens folder folder' source source' sink sink' (Ok (job.Executions rounds)) done (same, (result, writes, is)) = wrote folder folder' same source source' sink sink' (text.Executions rounds) done result writes is
 did opens folder folder' source source' sink sink' (Ok (job.Preset preset)) done (same, (result, writes, is)) = wrote folder folder' same source source' sink sink' (text.Preset preset) done result writes is
 did opens folder folder' source source' sink sink' (Ok (job.Verify task rounds)) done does = with_file (filed.Verify rounds) (opens (string_bytes task)) folder folder' source source' sink sink' done does
+did opens folder folder' source source' sink sink' (Ok (job.VerifyLong task rounds)) done does = with_file (filed.VerifyLong rounds) (opens (string_bytes task)) folder folder' source source' sink sink' done does
 did opens folder folder' source source' sink sink' (Ok (job.VerifyBranch task rounds branch)) done does = with_file (filed.VerifyBranch rounds branch) (opens (string_bytes task)) folder folder' source source' sink sink' done does
 did opens folder folder' source source' sink sink' (Ok (job.Join task rounds)) done does = with_file (filed.Join rounds) (opens (string_bytes task)) folder folder' source source' sink sink' done does
 did opens folder folder' source source' sink sink' (Ok (job.Model task rounds)) done does = with_file (filed.Model rounds) (opens (string_bytes task)) folder folder' source source' sink sink' done does
-did opens folder folder' source source' sink sink' (Ok (job.Proof task rounds branch hints)) done does = with_file (filed.Proof rounds branch hints) (opens (string_bytes task)) folder folder' source source' sink sink' done does
+did opens folder folder' source source' sink sink' (Ok (job.Proof task rounds branch hints progress)) done does = with_file (filed.Proof (record { rounds = rounds; branch = branch; hints = hints; progress = progress })) (opens (string_bytes task)) folder folder' source source' sink sink' done does
 did opens folder folder' source source' sink sink' (Ok (job.Decisions task)) done does = with_file filed.Decisions (opens (string_bytes task)) folder folder' source source' sink sink' done does
 did opens folder folder' source source' sink sink' (Ok (job.Trim task)) done does = with_file filed.Trim (opens (string_bytes task)) folder folder' source source' sink sink' done does
 did opens folder folder' source source' sink sink' (Ok (job.Explain task)) done does = with_file filed.Explain (opens (string_bytes task)) folder folder' source source' sink sink' done does

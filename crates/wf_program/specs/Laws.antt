@@ -3,12 +3,13 @@ use Rattle.std.specs.Prelude.{◌≡◌, ◌+◌, ◌≤◌, ◌⊎◌, ℕ, Opt
 use Rattle.wf_model.specs.Limits.{most_bytes}
 use Rattle.wf_io.specs.Seen.{Reading, Writing}
 use Rattle.wf_verify_engine.specs.Proofs.{most_proof_bytes}
+use Rattle.wf_long.specs.Long.{most_report_bytes}
 use Rattle.wf_branches.specs.Joining.{most_parts_bytes}
 use Rattle.wf_words.specs.Asked.{GivenWords, IsAsked}
 use Rattle.wf_words.specs.declared.fault.WordsFault.{WordsFault}
 use Rattle.wf_args.specs.Asked.{job_asked}
 use Rattle.wf_args.specs.declared.Job.{Job}
-use Rattle.wf_args.specs.declared.Job.TheVariants.{Verify, VerifyBranch, Decisions, Join, Model, Proof, Trim, Explain, Lift}
+use Rattle.wf_args.specs.declared.Job.TheVariants.{Verify, VerifyLong, VerifyBranch, Decisions, Join, Model, Proof, Trim, Explain, Lift}
 use Rattle.wf_files.specs.Files.{Filing, Opens}
 use Rattle.wf_files.specs.Laws.{IsFiled}
 use Rattle.wf_service.specs.Laws.{calls_by_status}
@@ -18,11 +19,12 @@ use Rattle.wf_program.specs.Program.{Serves, TellsNote}
 -- how many files a job opens
 abbrev pub file_count : Result Job WordsFault → ℕ
 file_count (Ok (Verify task rounds)) = 1
+file_count (Ok (VerifyLong task rounds)) = 1
 file_count (Ok (VerifyBranch task rounds branch)) = 1
 file_count (Ok (Decisions task)) = 1
 file_count (Ok (Join task rounds)) = 1
 file_count (Ok (Model task rounds)) = 1
-file_count (Ok (Proof task rounds branch hints)) = 1
+file_count (Ok (Proof task rounds branch hints progress)) = 1
 file_count (Ok (Trim task)) = 1
 file_count (Ok (Explain task)) = 1
 file_count (Ok (Lift task rounds)) = 1
@@ -30,7 +32,8 @@ file_count asked = 0
 
 -- how many bytes the text may have that a job reads of the source
 abbrev pub most_read : Result Job WordsFault → ℕ
-most_read (Ok (Proof task rounds branch hints)) = most_proof_bytes
+most_read (Ok (VerifyLong task rounds)) = most_report_bytes
+most_read (Ok (Proof task rounds branch hints progress)) = most_proof_bytes
 most_read (Ok (Join task rounds)) = most_parts_bytes
 most_read asked = most_bytes
 

@@ -17,9 +17,10 @@ use Rattle.wf_verify_engine.specs.Verify.{Decides}
 use Rattle.wf_verify_engine.specs.Certificates.{VerifiesCertificate}
 use Rattle.wf_verify_engine.specs.Models.{Models}
 use Rattle.wf_verify_engine.specs.Proofs.{Refutes}
+use Rattle.wf_long.specs.Long.{VerifiesLong}
 use Rattle.wf_verify_engine.specs.Hints.{RefutesByHints}
 use Rattle.wf_run.specs.Presets.{WritesPreset}
-use Rattle.wf_argument.specs.Listing.{executions_text}
+use Rattle.wf_argument_words.specs.Listing.{executions_text}
 use Rattle.wf_report_engine.specs.Trimming.{Trims}
 use Rattle.wf_report_engine.specs.Explaining.{Explains}
 use Rattle.wf_report_engine.specs.Lifting.{Lifts}
@@ -38,7 +39,7 @@ use Rattle.wf_words.specs.Asked.{GivenWords, IsAsked}
 use Rattle.wf_words.specs.declared.fault.WordsFault.{WordsFault}
 use Rattle.wf_args.specs.Asked.{job_asked}
 use Rattle.wf_args.specs.declared.Job.{Job}
-use Rattle.wf_args.specs.declared.Job.TheVariants.{Solve, SolveBranch, Verify, VerifyBranch, Views, Points, Branches, Join, Cnf, Model, Proof, Decisions, Trim, Explain, Lift, Executions, Obstruction, Preset}
+use Rattle.wf_args.specs.declared.Job.TheVariants.{Solve, SolveBranch, Verify, VerifyLong, VerifyBranch, Views, Points, Branches, Join, Cnf, Model, Proof, Decisions, Trim, Explain, Lift, Executions, Obstruction, Preset}
 use Rattle.wf_files.specs.Files.{Opening, Opens, Filing, CanAsk}
 use Rattle.wf_files.specs.FileRuns.{Did, DoesBoth, WithFile}
 use Rattle.wf_service.specs.Refusals.{Refuses, refusal_line}
@@ -52,6 +53,7 @@ use Rattle.wf_program.specs.declared.done.Note.TheVariants as note
 use Rattle.wf_program.specs.declared.done.Note.TheVariants.{Account, NoObstruction}
 use Rattle.wf_program.specs.declared.filed.FileJob.{FileJob}
 use Rattle.wf_program.specs.declared.filed.FileJob.TheVariants as filed
+use Rattle.wf_program.specs.declared.filed.ProofJob.{ProofJob}
 use Rattle.wf_program.specs.declared.lone.LoneJob.{LoneJob}
 use Rattle.wf_program.specs.declared.lone.LoneJob.TheVariants as lone
 use Rattle.wf_program.specs.declared.texts.TextJob.{TextJob}
@@ -101,19 +103,26 @@ abbrev pub shown : Result (Unit {0}) Refusal → Result Done Refusal
 shown (Ok done) = Ok (record { status = 0; note = None })
 shown (Err e) = Err e
 
+-- a proof about a task was checked: by its hints or without, about the whole or about one branch
+abbrev pub ChecksProofBy : ℕ → Option ℕ → Bool → DoesBoth (Unit {0})
+ChecksProofBy rounds None false task task' source source' sink sink' result = Refutes rounds task task' source source' sink sink' result
+ChecksProofBy rounds (Some branch) false task task' source source' sink sink' result = RefutesBranch rounds branch task task' source source' sink sink' result
+ChecksProofBy rounds None true task task' source source' sink sink' result = RefutesByHints rounds task task' source source' sink sink' result
+ChecksProofBy rounds (Some branch) true task task' source source' sink sink' result =
+    RefutesBranchByHints rounds branch task task' source source' sink sink' result
+
+abbrev pub ChecksProof : ProofJob → DoesBoth (Unit {0})
+ChecksProof asked task task' source source' sink sink' result = ChecksProofBy asked.rounds asked.branch asked.hints task task' source source' sink sink' result
+
 -- what a job does with the task in its file
 abbrev pub DoesWithFile : FileJob → DoesBoth (Unit {0})
 DoesWithFile (filed.Verify rounds) task task' source source' sink sink' result = Did (VerifiesCertificate rounds) task task' source source' sink sink' result
+DoesWithFile (filed.VerifyLong rounds) task task' source source' sink sink' result = Did (VerifiesLong rounds) task task' source source' sink sink' result
 DoesWithFile (filed.VerifyBranch rounds branch) task task' source source' sink sink' result =
     VerifiesBranch rounds branch task task' source source' sink sink' result
 DoesWithFile (filed.Join rounds) task task' source source' sink sink' result = Joins rounds task task' source source' sink sink' result
 DoesWithFile (filed.Model rounds) task task' source source' sink sink' result = Models rounds task task' source source' sink sink' result
-DoesWithFile (filed.Proof rounds None false) task task' source source' sink sink' result = Refutes rounds task task' source source' sink sink' result
-DoesWithFile (filed.Proof rounds (Some branch) false) task task' source source' sink sink' result =
-    RefutesBranch rounds branch task task' source source' sink sink' result
-DoesWithFile (filed.Proof rounds None true) task task' source source' sink sink' result = RefutesByHints rounds task task' source source' sink sink' result
-DoesWithFile (filed.Proof rounds (Some branch) true) task task' source source' sink sink' result =
-    RefutesBranchByHints rounds branch task task' source source' sink sink' result
+DoesWithFile (filed.Proof asked) task task' source source' sink sink' result = ChecksProof asked task task' source source' sink sink' result
 DoesWithFile filed.Decisions task task' source source' sink sink' result = Decides task task' source source' sink sink' result
 DoesWithFile filed.Trim task task' source source' sink sink' result = Trims task task' source source' sink sink' result
 DoesWithFile filed.Explain task task' source source' sink sink' result = Explains task task' source source' sink sink' result
@@ -177,10 +186,12 @@ lone_of job = option_map lone.Text (text_of job)
 -- what a job does with the task in its file, and the file's path; none where it has no file
 abbrev pub filed_of : Job → Option (FileJob × List ℕ)
 filed_of (Verify task rounds) = Some (filed.Verify rounds, string_bytes task)
+filed_of (VerifyLong task rounds) = Some (filed.VerifyLong rounds, string_bytes task)
 filed_of (VerifyBranch task rounds branch) = Some (filed.VerifyBranch rounds branch, string_bytes task)
 filed_of (Join task rounds) = Some (filed.Join rounds, string_bytes task)
 filed_of (Model task rounds) = Some (filed.Model rounds, string_bytes task)
-filed_of (Proof task rounds branch hints) = Some (filed.Proof rounds branch hints, string_bytes task)
+filed_of (Proof task rounds branch hints progress) =
+    Some (filed.Proof (record { rounds = rounds; branch = branch; hints = hints; progress = progress }), string_bytes task)
 filed_of (Decisions task) = Some (filed.Decisions, string_bytes task)
 filed_of (Trim task) = Some (filed.Trim, string_bytes task)
 filed_of (Explain task) = Some (filed.Explain, string_bytes task)

@@ -1,13 +1,13 @@
 //! Listing the executions of a task.
 
 ghost use Rattle.wf_io.specs.Ends.{CanCount, CanWrite};
-ghost use Rattle.wf_argument.specs.Listing.{executions_text};
+ghost use Rattle.wf_argument_words.specs.Listing.{executions_text};
 ghost use Rattle.wf_run.specs.Run.{Answers, Ran};
 ghost use Rattle.wf_run.specs.Texts.{IsTextOf, Lists};
 
 use std::alloc::Global;
 use std::io::{Read, Write};
-use wf_argument::{Executions, write_executions};
+use wf_argument_words::{Executions, write_executions};
 use wf_complex::Protocol;
 use wf_io::{Page, Sink, Source};
 use wf_run::{RunFault, read_task};

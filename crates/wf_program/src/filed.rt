@@ -4,7 +4,8 @@ ghost use Rattle.std.specs.Prelude.{◌≡◌, option_map};
 ghost use Rattle.std.specs.Thread.{IsSync};
 ghost use Rattle.wf_io.specs.Ends.{CanCount};
 ghost use Rattle.wf_files.specs.Files.{CanAsk};
-ghost use Rattle.wf_program.specs.Program.{DoesFile, DoesWithFile, filed_of};
+ghost use Rattle.wf_run.specs.Sources.{CanReadBoth};
+ghost use Rattle.wf_program.specs.Program.{ChecksProof, DoesFile, DoesWithFile, filed_of};
 
 use crate::done::{Done, after_writing};
 use std::alloc::Global;
@@ -14,27 +15,41 @@ use wf_args::Job;
 use wf_branches::{run_hinted_proof_branch, run_join, run_proof_branch, run_verify_branch};
 use wf_files::{Files, Opener, TaskRun, run_with_file, without_answer};
 use wf_io::{Sink, Source};
+use wf_long::run_verify_long;
 use wf_report_engine::{run_explain, run_lift, run_trim};
 use wf_run::RunFault;
 use wf_service::Refusal;
 use wf_verify_engine::{
-    run_decisions, run_hinted_proof, run_model, run_proof, run_verify_certificate,
+    ProofListener, run_decisions, run_hinted_proof, run_model, run_proof, run_verify_certificate,
 };
+
+/// A check of a solver's proof that there is no map after so many rounds, or none in the branch of
+/// this number.
+#[derive(Clone, Copy)]
+pub(crate) struct ProofJob {
+    rounds: u32,
+    branch: Option<u32>,
+    // whether the proof has hints
+    hints: bool,
+    // whether it is told how the check goes on
+    progress: bool,
+}
 
 /// What a job does with the task in a file, and with what the source gives about it.
 #[derive(Clone, Copy)]
 pub(crate) enum FileJob {
     /// Check a report or an obstruction, for these rounds if any are asked for.
     Verify(Option<u32>),
+    /// Check a report of any length, for these rounds if any are asked for.
+    VerifyLong(Option<u32>),
     /// Check a part about the branch of this number, for so many rounds.
     VerifyBranch { rounds: u32, branch: u32 },
     /// Put the parts of an answer for so many rounds together.
     Join(u32),
     /// Report the map of a solver's model for so many rounds.
     Model(u32),
-    /// Check a solver's proof that there is no map after so many rounds, or none in the branch of
-    /// this number. Whether the proof has hints stands at the end.
-    Proof(u32, Option<u32>, bool),
+    /// Check a solver's proof.
+    Proof(ProofJob),
     /// Tell what a report's map decides.
     Decisions,
     /// Write a report with the lines that are needed.
@@ -52,6 +67,7 @@ impl FileJob {
     {
         let (filed, task) = match job {
             Job::Verify { task, rounds } => (FileJob::Verify(*rounds), task),
+            Job::VerifyLong { task, rounds } => (FileJob::VerifyLong(*rounds), task),
             Job::VerifyBranch {
                 task,
                 rounds,
@@ -67,7 +83,18 @@ impl FileJob {
                 rounds,
                 branch,
                 hints,
-            } => (FileJob::Proof(*rounds, *branch, *hints), task),
+                progress,
+            } => {
+                let (rounds, branch) = (*rounds, *branch);
+                let (hints, progress) = (*hints, *progress);
+                let proof = ProofJob {
+                    rounds,
+                    branch,
+                    hints,
+                    progress,
+                };
+                (FileJob::Proof(proof), task)
+            }
             Job::Decisions { task } => (FileJob::Decisions, task),
             Job::Trim { task } => (FileJob::Trim, task),
             Job::Explain { task } => (FileJob::Explain, task),
@@ -78,15 +105,46 @@ impl FileJob {
     }
 }
 
+impl ProofJob {
+    /// Checks the source's proof about the task of another source.
+    fn check<L: ProofListener, F: Read, R: Read, W: Write>(
+        self,
+        alloc: Global,
+        task: &mut Source<F>,
+        source: &mut Source<R>,
+        sink: &mut Sink<W>,
+        listener: &L,
+    ) -> Result<(), RunFault>
+        requires { CanReadBoth task.old source.old sink.old }
+        ensures { ChecksProof self task.old task.new source.old source.new sink.old sink.new
+            result }
+    {
+        let told = if self.progress { Some(listener) } else { None };
+        let rounds = self.rounds;
+        match (self.branch, self.hints) {
+            (None, false) => run_proof(alloc, task, source, sink, rounds, told),
+            (None, true) => run_hinted_proof(alloc, task, source, sink, rounds, told),
+            (Some(branch), false) => {
+                run_proof_branch(alloc, task, source, sink, rounds, branch, told)
+            }
+            (Some(branch), true) => {
+                run_hinted_proof_branch(alloc, task, source, sink, rounds, branch, told)
+            }
+        }
+    }
+}
+
 /// A job with the task in a file, and what it is done with.
 #[derive(Clone, Copy)]
-pub(crate) struct FileRun<'a, T> {
+pub(crate) struct FileRun<'a, T, L> {
     pub(crate) rt: &'a T,
     pub(crate) alloc: Global,
     pub(crate) job: FileJob,
+    // who is told how a check goes on, if progress is asked for
+    pub(crate) listener: &'a L,
 }
 
-impl<'a, T: Threads + Sync> FileRun<'a, T> {
+impl<'a, T: Threads + Sync, L: ProofListener> FileRun<'a, T, L> {
     /// Does it with the task in the file under a path.
     pub(crate) fn with_file<F: Files, R: Read, W: Write>(
         &self,
@@ -104,7 +162,7 @@ impl<'a, T: Threads + Sync> FileRun<'a, T> {
     }
 }
 
-impl<'a, T: Threads + Sync> TaskRun for FileRun<'a, T> {
+impl<'a, T: Threads + Sync, L: ProofListener> TaskRun for FileRun<'a, T, L> {
     ghost does = { λ run. DoesWithFile run.job };
 
     ghost is_ready = { λ _. IsSync T.row };
@@ -115,9 +173,17 @@ impl<'a, T: Threads + Sync> TaskRun for FileRun<'a, T> {
         source: &mut Source<R>,
         sink: &mut Sink<W>,
     ) -> Result<(), RunFault> {
-        let FileRun { rt, alloc, job } = *self;
+        let FileRun {
+            rt,
+            alloc,
+            job,
+            listener,
+        } = *self;
         match job {
             FileJob::Verify(rounds) => without_answer(run_verify_certificate(
+                rt, alloc, task, source, sink, rounds,
+            )),
+            FileJob::VerifyLong(rounds) => without_answer(run_verify_long(
                 rt, alloc, task, source, sink, rounds,
             )),
             FileJob::VerifyBranch { rounds, branch } => {
@@ -125,16 +191,7 @@ impl<'a, T: Threads + Sync> TaskRun for FileRun<'a, T> {
             }
             FileJob::Join(rounds) => run_join(rt, alloc, task, source, sink, rounds),
             FileJob::Model(rounds) => run_model(rt, alloc, task, source, sink, rounds),
-            FileJob::Proof(rounds, None, false) => run_proof(alloc, task, source, sink, rounds),
-            FileJob::Proof(rounds, None, true) => {
-                run_hinted_proof(alloc, task, source, sink, rounds)
-            }
-            FileJob::Proof(rounds, Some(branch), false) => {
-                run_proof_branch(alloc, task, source, sink, rounds, branch)
-            }
-            FileJob::Proof(rounds, Some(branch), true) => {
-                run_hinted_proof_branch(alloc, task, source, sink, rounds, branch)
-            }
+            FileJob::Proof(proof) => proof.check(alloc, task, source, sink, listener),
             FileJob::Decisions => run_decisions(rt, alloc, task, source, sink),
             FileJob::Trim => run_trim(rt, alloc, task, source, sink),
             FileJob::Explain => run_explain(rt, alloc, task, source, sink),

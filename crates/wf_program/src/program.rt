@@ -20,6 +20,7 @@ use wf_finder::Listener;
 use wf_io::{Sink, Source};
 use wf_pool::Gate;
 use wf_service::{Program, Refusal, decline, refuse, tell};
+use wf_verify_engine::ProofListener;
 use wf_words::WordsFault;
 
 /// What this program is called, and what it says beside words that it does not take.
@@ -39,9 +40,16 @@ const WFCHECK: Program = Program {
 /// second one where words are read that make no job. A note is one line too: the account of a
 /// search that was not refused, if the words ask for it, or the moduli without an obstruction.
 ///
-/// If the words ask for progress, the gate is told of a search while it goes on. What a gate does
-/// with that is the caller's: what it writes is no part of `errors`.
-pub fn run_program<T: Threads + Sync, F: Files, G: Gate + Listener, R: Read, W: Write, E: Write>(
+/// If the words ask for progress, the gate is told of a search, or of the check of a proof, while
+/// that goes on. What a gate does then is the caller's: what it writes is no part of `errors`.
+pub fn run_program<
+    T: Threads + Sync,
+    F: Files,
+    G: Gate + Listener + ProofListener,
+    R: Read,
+    W: Write,
+    E: Write,
+>(
     rt: &T,
     alloc: Global,
     folder: &mut Opener<F>,
@@ -71,7 +79,7 @@ fn job_of(alloc: Global, words: Result<Vec<String>, WordsFault>) -> Result<Job, 
 }
 
 /// Does what a job asks for.
-fn do_job<T: Threads + Sync, F: Files, G: Gate + Listener, R: Read, W: Write>(
+fn do_job<T: Threads + Sync, F: Files, G: Gate + Listener + ProofListener, R: Read, W: Write>(
     rt: &T,
     alloc: Global,
     folder: &mut Opener<F>,
@@ -91,6 +99,7 @@ fn do_job<T: Threads + Sync, F: Files, G: Gate + Listener, R: Read, W: Write>(
             rt,
             alloc,
             job: filed,
+            listener: gate,
         };
         return run.with_file(folder, path, source, sink);
     }

@@ -7,8 +7,8 @@ use Rattle.std.proofs.lemmas.List.Folds.{list_all-map, list_all_more}
 use Rattle.std.proofs.lemmas.Bool.{false≢true}
 use Rattle.wf_clauses.specs.Formula.{Assignment, Literal, SatisfiesAll, holds, neg, pos, satisfies}
 use Rattle.wf_drat.specs.Codes.{code_of, hold_codes, holds_code, is_model_of_codes, literal_of, satisfies_codes}
-use Rattle.wf_rup.specs.Stored.{IsModelOfStored, KeepsStoredModels, KeepsStoredModelsOf, Stored, StoredEntails}
-use Rattle.wf_rup.specs.Seen.{Entails, IsModelOf, KeepsModels, KeepsModelsOf, Known, known_of}
+use Rattle.wf_rup.specs.Stored.{IsModelOfStored, KeepsStoredModels, KeepsStoredModelsOf, Stored}
+use Rattle.wf_rup.specs.Seen.{IsModelOf, KeepsModels, KeepsModelsOf, Known, known_of}
 use Rattle.wf_rup.specs.Whole.{clauses_of}
 
 -- a literal is that of its code
@@ -93,9 +93,3 @@ pub keeps-models_of : (v : ℕ) (old new : Stored) (known : Known) (clause : Lis
 keeps-models_of v old new known clause codes e same kept = λ a model satisfied.
     model_of_known v a new (kept a (model_of_stored v a old (subst (IsModelOf a) (sym e) model))
     (ap (satisfies_codes a) same ∙ satisfies-codes a clause ∙ satisfied))
-
-pub entails-clause : (v : ℕ) (s : Stored) (known : Known) (clause : List Literal) (codes : List ℕ) → known_of v s ≡ known → codes ≡ map code_of clause
-    → StoredEntails s codes → Entails known clause
-entails-clause v s known clause codes e same entailed = λ a model.
-    sym (ap (satisfies_codes a) same ∙ satisfies-codes a clause)
-    ∙ entailed a (model_of_stored v a s (subst (IsModelOf a) (sym e) model))

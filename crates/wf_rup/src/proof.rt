@@ -89,6 +89,13 @@ impl Proof {
         }
     }
 
+    /// The number of the line in which the next byte stands.
+    pub fn line(&self) -> u64
+        ensures { result ≡ self.now.line }
+    {
+        self.reader.line()
+    }
+
     /// Reads the next piece: the checker takes its steps one by one. What comes behind the
     /// contradiction is passed over.
     ///

@@ -8,6 +8,7 @@ ghost use Rattle.wf_run.specs.Run.{answered};
 ghost use Rattle.wf_run.specs.Sources.{CanReadBoth};
 ghost use Rattle.wf_verify_engine.specs.Hints.{ReadsAsHints, ReadsHints, RefutesByHints};
 
+use crate::listener::{ProofListener, tell_line};
 use crate::proof::{MOST_PROOF_BYTES, PIECE};
 use crate::verify::accepted_text;
 use std::alloc::Global;
@@ -26,26 +27,31 @@ use wf_task::Task;
 /// the views is a decision map, whatever the proof's bytes are.
 ///
 /// The proof is read in pieces and may be longer than memory. Too many rounds or executions are
-/// refused before it is read, and more than [`MOST_PROOF_BYTES`] once that many were.
-pub fn run_hinted_proof<R: Read, C: Read, W: Write>(
+/// refused before it is read, and more than [`MOST_PROOF_BYTES`] once that many were. If there is a
+/// listener, it is told how the check goes on.
+pub fn run_hinted_proof<L: ProofListener, R: Read, C: Read, W: Write>(
     alloc: Global,
     task_source: &mut Source<R>,
     proof_source: &mut Source<C>,
     sink: &mut Sink<W>,
     rounds: u32,
+    listener: Option<&L>,
 ) -> Result<(), RunFault>
     requires { CanReadBoth task_source.old proof_source.old sink.old }
     ensures { RefutesByHints rounds task_source.old task_source.new proof_source.old
         proof_source.new sink.old sink.new result }
 {
-    run_over_both(alloc, task_source, proof_source, sink, rounds, &NoneByHints)
+    let none = NoneByHints { listener };
+    run_over_both(alloc, task_source, proof_source, sink, rounds, &none)
 }
 
 /// That no decision map is accepted, if a solver's proof with hints shows it.
 #[derive(Clone, Copy)]
-struct NoneByHints;
+struct NoneByHints<'a, L> {
+    listener: Option<&'a L>,
+}
 
-impl SecondText for NoneByHints {
+impl<'a, L: ProofListener> SecondText for NoneByHints<'a, L> {
     ghost reads = { λ none. ReadsHints };
 
     fn read_about<C: Read>(
@@ -55,24 +61,25 @@ impl SecondText for NoneByHints {
         protocol: &Protocol,
         source: &mut Source<C>,
     ) -> Result<((), Vec<u8>), RunFault> {
-        refute(alloc, task, protocol, source)
+        refute(alloc, task, protocol, source, self.listener)
     }
 }
 
 /// The line that no decision map is accepted, where a source's proof with hints shows that there is
 /// none on a task's protocol complex.
-fn refute<C: Read>(
+fn refute<L: ProofListener, C: Read>(
     alloc: Global,
     task: &Task,
     protocol: &Protocol,
     source: &mut Source<C>,
+    listener: Option<&L>,
 ) -> Result<((), Vec<u8>), RunFault>
     requires source { CanRead source.old }
     requires protocol { IsProtocol task.now protocol.now.rounds protocol.now }
     ensures { ReadsHints task.now protocol.now.rounds source.old source.new (answered result) }
 {
     let checker = pose_hints(alloc, task, protocol)?;
-    read_hints_from(alloc, source, checker)?;
+    read_hints_from(alloc, source, checker, listener)?;
     let text = accepted_text(
         alloc,
         &Body::Nothing(Vec::new(alloc)),
@@ -85,25 +92,27 @@ fn refute<C: Read>(
 /// last step of a run over a proof. It is refused where its bytes are no such proof, with its first
 /// fault: `38 NotALiteral`, `39 NoSuchVariable`, `41 NoContradiction`, `42 Binary`,
 /// `61 NegativeHint` to `64 IdOutOfRange`; and `1 TooLong`, `30 Read`.
-pub fn read_hints_from<C: Read>(
+pub fn read_hints_from<L: ProofListener, C: Read>(
     alloc: Global,
     source: &mut Source<C>,
     checker: HintChecker,
+    listener: Option<&L>,
 ) -> Result<(), RunFault>
     requires { CanRead source.old }
     ensures { ReadsAsHints checker (λ accepted. HasNoModel checker)
         source.old source.new result }
 {
     let mut piece = vec![in alloc; 0u8; PIECE]?;
-    read_pieces(alloc, source, checker, &mut piece)
+    read_pieces(alloc, source, checker, &mut piece, listener)
 }
 
 /// Reads a source to its end as a proof with hints, piece by piece into this room.
-fn read_pieces<C: Read>(
+fn read_pieces<L: ProofListener, C: Read>(
     alloc: Global,
     source: &mut Source<C>,
     mut checker: HintChecker,
     piece: &mut [u8],
+    listener: Option<&L>,
 ) -> Result<(), RunFault>
     requires source { CanRead source.old }
     requires piece { 0 < length piece.old }
@@ -118,7 +127,9 @@ fn read_pieces<C: Read>(
             Ok(0) => return Ok(proof.finish(alloc, &mut checker)?),
             Ok(n) => {
                 given += n as u64;
+                let before = proof.line();
                 proof.feed(alloc, &mut checker, &piece[..n])?;
+                tell_line(listener, before, proof.line(), given);
             }
             Err(_) => return Err(RunFault::Read),
         }

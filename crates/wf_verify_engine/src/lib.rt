@@ -27,6 +27,7 @@ mod certificate;
 mod decisions;
 mod hints;
 mod laws;
+mod listener;
 mod model;
 mod outcome;
 mod proof;
@@ -41,6 +42,7 @@ pub use laws::{
     models_are_accepted, models_are_true, obstructions_are_true, proving_is_counted,
     refutations_are_true, verifying_certificates_is_counted, verifying_is_counted,
 };
+pub use listener::{ProofListener, Unheard};
 pub use model::run_model;
 pub use outcome::{Accepted, Verified};
 pub use proof::{MOST_PROOF_BYTES, read_proof_from, run_proof};

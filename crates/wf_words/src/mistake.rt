@@ -28,6 +28,8 @@ pub enum Piece {
     Account,
     /// The option `--branch`.
     Branch,
+    /// The option `--long`.
+    Long,
     /// The option `--proof`.
     Proof,
     /// The option `--lrat`.
@@ -61,6 +63,7 @@ impl fmt::Display for Piece {
             Piece::Least => "--least",
             Piece::Account => "--account",
             Piece::Branch => "--branch",
+            Piece::Long => "--long",
             Piece::Proof => "--proof",
             Piece::Lrat => "--lrat",
             Piece::Kind => "KIND",

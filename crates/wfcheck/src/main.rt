@@ -13,14 +13,16 @@ use wf_finder::Listener;
 use wf_io::{Sink, Source};
 use wf_pool::{Gate, Moment};
 use wf_program::run_program;
+use wf_verify_engine::ProofListener;
 use wf_words::arguments;
 
 /// So many turns in which no branch was settled are worth a line, and then twice as many each time.
 const MANY_TURNS: u64 = 65_536;
 
-/// Tells on standard error how a search goes on: how large the complex is, how many branches there
-/// are, a line for each settled branch, and, where none was settled for long, how many turns were
-/// taken since. Where that can't be written nothing more can be done.
+/// Tells on standard error how a run goes on. Of a search it tells how large the complex is, how
+/// many branches there are, a line for each settled branch, and, if none was settled for long, how
+/// many turns were taken since. Of a check of a proof it tells which line is reached. If that can't
+/// be written nothing more can be done.
 #[derive(Drop)]
 struct ProgressLines<'a, R> {
     rt: &'a R,
@@ -78,6 +80,12 @@ impl<R: Eprint + Sync> Listener for ProgressLines<'_, R> {
 
     fn equations(&self, modulus: u32, count: u64) {
         let _told = eprintln!(self.rt; "modulo {modulus}: {count} equations taken in");
+    }
+}
+
+impl<R: Eprint + Sync> ProofListener for ProgressLines<'_, R> {
+    fn at_line(&self, line: u64, bytes: u64) {
+        let _told = eprintln!(self.rt; "line {line} of the proof, {bytes} bytes read");
     }
 }
 

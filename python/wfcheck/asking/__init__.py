@@ -17,10 +17,10 @@ since a map after fewer rounds would give one after R; `map at R`; or `not decid
     TASK       a task file, or the name of one in gallery/tasks
     ROUNDS     a number, or FIRST..LAST: each in turn, up to the first with a map
     --solver   cadical, kissat, cryptominisat5 or minisat (the last two write no proofs, and so find maps alone); or a command
-               with {formula}, with {proof} if it writes clausal proofs as text, and with {output} if it writes its model to
-               a file; or search, the search alone. Without it: the first of these four that is on the path
+               with {formula}, with {proof} if it writes clausal proofs as text, or {hints} if these have hints (LRAT), and with
+               {output} if it writes its model to a file; or search, the search alone. Without it: the first of these four that is on the path
     --seconds  the limit for each number of rounds, 60 if it isn't given; the checks are part of it. The obstruction has as much
-    --keep     a folder for what was accepted: the obstruction (TASK.obstruction), the solver's proof (.drat), its model (.said or .out)
+    --keep     a folder for what was accepted: the obstruction (TASK.obstruction), the solver's proof (.drat, or .lrat with hints), its model (.said or .out)
                and the report of that (.map), the search's report (.report), or that of a map of fewer rounds (.lifted). Nothing that is
                there is written over: the next free name is taken
     --table    a file to which a line is appended for each number of rounds that was asked, and one for `never`, with tabs between the task, the

@@ -16,7 +16,7 @@ from . import arrays, pool, table
 from .cases import Cases
 from .notes import Note, Notes, Room, digest, placed
 from .pool import shown
-from .questions import LONGEST, WITHOUT_LINES, Answer, Attempt, Question, answered
+from .questions import WITHOUT_LINES, Answer, Attempt, Question, answered
 from .runs import Clock, Late, Refused, Scope, Undecided, say
 
 STATUS = {"map": 0, "none": 1, None: 3}
@@ -88,7 +88,7 @@ class Branches:
             return None
         with self.room.attempt() as made:
             name = self.words.keep / note.name
-            word = self.attempt(branch, made, scope).accepted("proof" if name.suffix == ".drat" else "verify", name)
+            word = self.attempt(branch, made, scope).accepted(name)
             if word == note.word:
                 self.fresh[branch] = word
             else:
@@ -179,12 +179,8 @@ class Branches:
         return lines.of_file(self.words.keep / least.name) if least else lines.of_notes(notes.values())
 
     def verify(self, whole: Attempt) -> None:
-        """Has the report of the whole accepted once more, where it is not longer than `verify` reads."""
-        size = whole.file("report").stat().st_size
-        if size > LONGEST:
-            say(f"    the report of the whole has {size:,} bytes, and wfcheck verify reads {LONGEST:,}: wfcheck join has checked it")
-        else:
-            whole.accepted("verify", whole.file("report"))
+        """Has the report of the whole accepted once more."""
+        whole.accepted(whole.file("report"))
 
     def join(self) -> None:
         """Puts the parts together where the search wrote one of each branch up to the first with a map: the report of the whole question,
@@ -296,7 +292,7 @@ def chosen_of(words: argparse.Namespace, count: int) -> Sequence[int]:
     """The branches that are asked."""
     if words.branch is not None:
         if not 0 <= words.branch < count:
-            raise Refused(f"there are {count} branches, numbered from 0")
+            raise Refused(f"there {'is 1 branch' if count == 1 else f'are {count} branches'}, numbered from 0")
         return [words.branch]
     return range(words.share[0], count, words.share[1]) if words.share else range(count)
 
@@ -319,7 +315,7 @@ def main(words: argparse.Namespace, solver: Optional[str], clock: Clock) -> int:
     with Room(None if words.looks else words.keep) as room:
         branches = Branches(words, solver, room, question.count)
         if why := branches.notes.not_about(question.about, None if words.looks else room):
-            raise Refused(f"{words.keep} {why}: choose another folder")
+            raise Refused(f"{words.keep} {why}")
         rounds = "round" if branches.rounds == 1 else "rounds"
         some = f" {len(branches.chosen)} of them in this run," if len(branches.chosen) < question.count else ""
         known = len(branches.notes.all(branches.chosen))

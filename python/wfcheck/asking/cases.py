@@ -35,12 +35,11 @@ class CaseAttempt(Attempt):
         """Says something about this case."""
         super().tell(f"{self.case}: {name}", text)
 
-    def of_proof(self, name: str, taken: float) -> Optional[Answer]:
+    def of_proof(self, proof: pathlib.Path, name: str, taken: float) -> Optional[Answer]:
         """The case proof that a solver's proof gives. It is not accepted yet."""
-        self.tell_proof(name, taken)
         weakened = self.file(CASE)
         try:
-            composing.weaken(self.file("drat"), self.case, (name, taken), weakened, self.clock)
+            composing.weaken(proof, self.case, (name, taken), weakened, self.clock)
         except NoSteps as why:
             self.tell(name, f"has no answer: {why}")
             return None

@@ -58,7 +58,7 @@ def of_some(attempt: Attempt, whole: Task, kept: Sequence[int], clock: Clock) ->
     body = some.file("report").read_text().split("\n")[HEADER:-2]
     report.write_text("".join(f"{line}\n" for line in [*header(json.loads(whole.text)["processes"], rounds, every), *renumbered(
         body, [it for it in every if set(it.processes) <= set(kept)], listed, lost), "end"]))
-    if attempt.accepted("verify", report) != "none":
+    if attempt.accepted(report) != "none":
         report.unlink()
         return None
     say(f"    already none for {' and '.join(f'p{it}' for it in kept)}")

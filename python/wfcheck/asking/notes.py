@@ -159,7 +159,7 @@ class Notes:
                 with contextlib.suppress(FileExistsError):
                     os.link(made / "question", file)
         if not file.is_file():
-            return "has no notes"
+            return "has no notes yet: they come from runs with this folder as --keep"
         with open(file, **TEXT) as lines:
             found = lines.read(1 << 14)
         if found == text:
@@ -167,8 +167,8 @@ class Notes:
         words = dict(line.split(" ", 1) for line in found.split("\n") if " " in line)
         other = next((name for name in about if name in words and words[name] != str(about[name])), None)
         if other and words.keys() == about.keys():
-            return f"has notes about another {NAMES.get(other, other)}: {words[other]}, and not {about[other]}"
-        return "has notes about another question, or of an older version of this script"
+            return f"has notes about another {NAMES.get(other, other)}: {words[other]}, and not {about[other]}: choose another folder"
+        return "has notes about another question, or of an older version of this script: choose another folder"
 
     def line_of(self, branch: int) -> Optional[Note]:
         """What is noted of a branch, whether it is to be trusted or not."""

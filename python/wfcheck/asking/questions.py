@@ -7,7 +7,7 @@ import re
 import shlex
 import signal
 import subprocess
-from typing import Any, Callable, Dict, NamedTuple, Optional, Sequence, Tuple, TypeVar
+from typing import Any, Callable, Dict, List, NamedTuple, Optional, Sequence, Tuple, TypeVar
 
 from . import runs
 from .notes import VERDICT
@@ -23,11 +23,13 @@ CLAUSES = re.compile(rb"^p cnf \d+ (\d+)$", re.M)
 HEAD = 1 << 14
 # how a search ends that has written too many lines: it has an answer, or met the limit of a file
 TOO_LONG = 1, -signal.SIGXFSZ
-# how many bytes of a report `verify` reads; and who gives an answer that has no lines
+# how many bytes of a part `verify` reads; and who gives an answer that has no lines
 LONGEST, WITHOUT_LINES = 16_777_216, "the search's answer, without lines"
 EMPTY = re.compile(rb"\n(?=\n)")
 SAYS = re.compile(rb"(?:s )?(UN)?SAT(?:ISFIABLE)?\s*")
-PLACES = {"formula": "cnf", "proof": "drat", "output": "out"}
+PLACES = {"formula": "cnf", "proof": "drat", "hints": "lrat", "output": "out"}
+# the two kinds of clausal proofs, by what their files end in, and the words by which `wfcheck proof` is told of the second
+PROOFS = {".drat": [], ".lrat": ["--lrat"]}
 
 
 class NoFormula(Exception):
@@ -84,7 +86,7 @@ class Attempt:
         """What wfcheck accepts a file as, a map or none, and how it ended; no word where it refuses the file."""
         question = self.question
         try:
-            ended = self.wfcheck([command, *question.about, *question.branch], file)
+            ended = self.wfcheck([command, *question.about, *question.branch, *self.kind(command, file)], file)
         except Late:
             say(f"    wfcheck {command}: {question.who('no end')} within the {self.clock.seconds:g} s that the question has")
             raise
@@ -92,9 +94,17 @@ class Attempt:
         say(f"    wfcheck {command}: {ended.said.strip() if found else question.who(ended.why())} ({ended.taken:.2f} s)")
         return ({"least": "map"}.get(found[1], found[1]) if found else None), ended
 
-    def accepted(self, command: str, file: pathlib.Path) -> Optional[str]:
+    def kind(self, command: str, file: pathlib.Path) -> List[str]:
+        """The words that say what kind of text a file is: a report of any length, or a proof with hints. A part may not be longer than others."""
+        return PROOFS[file.suffix] if command == "proof" else ["--long"] * (not self.question.branch)
+
+    def accepted(self, file: pathlib.Path) -> Optional[str]:
         """What wfcheck accepts a file as, a map or none; None where it refuses it."""
-        return self.checked(command, file)[0]
+        return self.checked("proof" if file.suffix in PROOFS else "verify", file)[0]
+
+    def proof(self) -> Optional[pathlib.Path]:
+        """The proof that a solver has written, if it has: with hints, if there are any."""
+        return next(filter(pathlib.Path.is_file, map(self.file, ("lrat", "drat"))), None)
 
     def solve(self, wrote: pathlib.Path, *form: str) -> runs.Ended:
         """Has the search answer, and returns how it ended."""
@@ -120,7 +130,7 @@ class Attempt:
             report.unlink()
             if not self.has_lines(report):
                 return None
-        accepted = self.accepted("verify", report)
+        accepted = self.accepted(report)
         return Answer(word, SEARCH, ended.taken, [report]) if accepted == word else None
 
     def without_lines(self, size: int) -> Optional[Answer]:
@@ -165,7 +175,7 @@ class Attempt:
         say(f"    wfcheck lift: {ended.why() if ended.status else f'a map for {self.question.rounds} rounds'} ({ended.taken:.2f} s)")
         if ended.status:
             return None
-        return Answer("map", FEWER_ROUNDS, taken, [lifted]) if self.accepted("verify", lifted) == "map" else None
+        return Answer("map", FEWER_ROUNDS, taken, [lifted]) if self.accepted(lifted) == "map" else None
 
     def write_formula(self, most: int) -> None:
         """Writes the formula, where it has no more clauses than a limit."""
@@ -212,8 +222,10 @@ class Attempt:
         if says == "map":
             self.tell(name, f"says map in {taken:.2f} s")
             return self.of_model(name, taken, text)
-        if says == "none" and self.file("drat").is_file():
-            return self.of_proof(name, taken)
+        proof = self.proof()
+        if says == "none" and proof:
+            self.tell_proof(proof, name, taken)
+            return self.of_proof(proof, name, taken)
         self.scope.settle()
         self.tell(name, "says none, and writes no proof that could be checked" if says else "says nothing")
         return None
@@ -227,17 +239,14 @@ class Attempt:
                     return "none" if found[1] else "map", files[0]
         return None, None
 
-    def tell_proof(self, name: str, taken: float) -> None:
+    def tell_proof(self, proof: pathlib.Path, name: str, taken: float) -> None:
         """Says that a solver has written a proof, and how large it is."""
-        proof = self.file("drat")
         written = f"{lemmas(proof, self.clock):,} lemmas and {proof.stat().st_size:,} bytes"
-        self.tell(name, f"says none in {taken:.2f} s, with a proof of {written}")
+        self.tell(name, f"says none in {taken:.2f} s, with a proof {'with hints ' * bool(PROOFS[proof.suffix])}of {written}")
 
-    def of_proof(self, name: str, taken: float) -> Optional[Answer]:
+    def of_proof(self, proof: pathlib.Path, name: str, taken: float) -> Optional[Answer]:
         """A solver's proof, where it is accepted."""
-        self.tell_proof(name, taken)
-        proof = self.file("drat")
-        return Answer("none", name, taken, [proof]) if self.accepted("proof", proof) == "none" else None
+        return Answer("none", name, taken, [proof]) if self.accepted(proof) == "none" else None
 
     def of_model(self, name: str, taken: float, text: pathlib.Path) -> Optional[Answer]:
         """The report of a solver's model, of a branch as a part: a map of the question may lie in another branch."""
@@ -247,7 +256,7 @@ class Attempt:
         if ended.status:
             return None
         report.write_bytes(self.question.head().encode() + plain.read_bytes())
-        return Answer("map", name, taken, [report, text]) if self.accepted("verify", report) == "map" else None
+        return Answer("map", name, taken, [report, text]) if self.accepted(report) == "map" else None
 
 
 def solver_name(words: str) -> str:
@@ -257,12 +266,12 @@ def solver_name(words: str) -> str:
 
 def lemmas(proof: pathlib.Path, clock: Clock) -> int:
     """How many lines of a proof are no deletions and no comments, and not empty: the line feeds that other bytes follow."""
-    count, last = 0, b"\n"
+    count, last, deletes = 0, b"\n", b" d " if PROOFS[proof.suffix] else b"\nd"
     with open(proof, "rb") as text:
         while read := text.read(1 << 20):
             clock.go_on()
             piece, last = last + read, read[-1:]
-            others = piece.count(b"\nd") + piece.count(b"\nc") + (len(EMPTY.findall(piece)) if b"\n\n" in piece else 0)
+            others = piece.count(deletes) + piece.count(b"\nc") + (len(EMPTY.findall(piece)) if b"\n\n" in piece else 0)
             count += piece.count(b"\n", 0, -1) - others
     return count
 

@@ -26,8 +26,12 @@ SOLVERS = {
     "cryptominisat5": "cryptominisat5 --verb 0 {formula}",
     "minisat": "minisat -verb=0 {formula} {output}",
 }
+# CaDiCaL writes hints from version 1.7 on, by which a proof is checked ten times faster and more
+HINTS = "cadical -q --no-binary --lrat {formula} {hints}"
 # Kissat's bounded variable addition, from version 4.0 on, brings in new variables: those of two cases of a split would be mixed up
 NO_FACTOR, SATISFIABLE = "--no-factor", 10
+# what CaDiCaL does without a word on a formula without a model, if it knows the option
+NO_MODEL, UNSATISFIABLE = "p cnf 1 2\n1 0\n-1 0\n", 20
 SEARCH_ALONE = "search"
 NO_SOLVER = "no SAT solver is on the path (Debian has the packages cadical, cryptominisat and minisat): the search alone is asked"
 REFUSED, CUT_OFF = 2, 130
@@ -151,20 +155,28 @@ def wrong_command(solver: str) -> Optional[str]:
     return None if words and shutil.which(words[0]) else f"{words[0] if words else solver!r} is not on the path"
 
 
-def command(solver: str, limits: Limits) -> str:
-    """The command of a solver: of Kissat without the option that an older one doesn't know."""
+def command(solver: str, limits: Limits, has_hints: bool) -> str:
+    """The command of a solver: of Kissat without the option that an older one doesn't know, and of CaDiCaL with hints, if it can write
+    them and they are of use."""
     words = SOLVERS.get(solver, solver)
-    if solver != "kissat":
-        return words
+    if solver == "kissat":
+        knows = tried(["kissat", "-q", NO_FACTOR], "p cnf 1 1\n1 0\n", limits) == SATISFIABLE
+        return words if knows else words.replace(f" {NO_FACTOR}", "")
+    if solver == "cadical" and has_hints and tried(["cadical", "-q", "--no-binary", "--lrat"], NO_MODEL, limits) == UNSATISFIABLE:
+        return HINTS
+    return words
+
+
+def tried(words: List[str], text: str, limits: Limits) -> Optional[int]:
+    """The status with which a solver ends on a small formula, with a place for a proof; None if it has none."""
     with tempfile.TemporaryDirectory() as made:
-        formula = pathlib.Path(made) / "one.cnf"
-        formula.write_text("p cnf 1 1\n1 0\n")
+        formula, proof = pathlib.Path(made) / "one.cnf", pathlib.Path(made) / "proof"
+        formula.write_text(text)
         how = {name: subprocess.DEVNULL for name in ("stdin", "stdout", "stderr")}
         try:
-            status = Scope(limits).run(["kissat", "-q", NO_FACTOR, formula], Clock(10), **how)
+            return Scope(limits).run([*words, formula, *[proof] * (text == NO_MODEL)], Clock(10), **how)
         except (Late, OSError):
-            status = None
-    return words if status == SATISFIABLE else words.replace(f" {NO_FACTOR}", "")
+            return None
 
 
 def by_path(solver: str) -> str:
@@ -211,7 +223,7 @@ def answered(words: argparse.Namespace) -> int:
     solver = words.solver or next(filter(shutil.which, SOLVERS), None)
     if not solver and not words.looks:
         print(NO_SOLVER, file=sys.stderr)
-    solver = None if solver in (None, SEARCH_ALONE) or words.looks else command(solver, words.limits)
+    solver = None if solver in (None, SEARCH_ALONE) or words.looks else command(solver, words.limits, not words.split)
     if words.split and not solver:
         raise Refused("--split needs a SAT solver that writes proofs")
     if words.array:
@@ -240,7 +252,7 @@ def in_cases(words: argparse.Namespace, solver: str) -> int:
     rounds, clock, about = words.rounds[0], Clock(words.seconds), branches.listed(words).about
     with Room(words.keep) as room:
         if why := Notes(words.keep).not_about(about, room):
-            raise Refused(f"{words.keep} {why}: choose another folder")
+            raise Refused(f"{words.keep} {why}")
         say(f"{words.task.stem} after {rounds} {'round' if rounds == 1 else 'rounds'}:")
         with room.attempt() as made:
             whole = Attempt(Question(words.task, rounds), made, Scope(words.limits), Clock(words.seconds))

@@ -6,8 +6,9 @@ use Rattle.wf_args.proofs.command.first_five.Goals as goal
 pub returns : goal.returns
 returns c =
     let about_is : app_of c.about.result ≡ new_app (codes "wfcheck") = ap app_of_fields c.about.ensures ∙ c.new.ensures.app in
+    let told_is : app_of c.after_help.result ≡ new_app (codes "wfcheck") = ap app_of_fields c.after_help.ensures ∙ about_is in
     let version_is : app_of c.version.result ≡ on_top (λ s. record s { has_version = true }) (new_app (codes "wfcheck")) =
-    ap app_of_fields c.version.ensures ∙ ap (on_top (λ s. record s { has_version = true })) about_is in
+    ap app_of_fields c.version.ensures ∙ ap (on_top (λ s. record s { has_version = true })) told_is in
     let required_is : app_of c.subcommand_required-command.result ≡ on_top (λ s. record s { subcommand_required = true; has_version = true }) (new_app (codes "wfcheck")) =
     ap app_of_fields c.subcommand_required-command.ensures ∙ ap (on_top (λ s. record s { subcommand_required = true })) version_is in
     let has_solve = c.adding-command.ensures _ line.solve required_is c.solve_command.ensures in

@@ -1,8 +1,8 @@
 use Rattle.std.proofs.Common.{◌++◌, Some, map, string_bytes, ap, ◌∙◌}
 use Rattle.std.specs.List.{count_by}
 use Rattle.wf_lines.specs.Lines.{line_of}
-use Rattle.wf_model.specs.Execution.{executions}
 use Rattle.wf_model.specs.Problem.{problem_of}
+use Rattle.wf_argument_words.specs.Text.{named_executions}
 use Rattle.wf_argument.specs.Parts.{parts_of}
 use Rattle.wf_argument.specs.State.{start}
 use Rattle.wf_argument.specs.Text.{parts_text}
@@ -30,6 +30,6 @@ returns c =
     c.in_ok-writeln.ensures.bytes
     (c.in_ok-put_points.ensures ∙ ap (λ marks. t2 ++ marked_text c.symmetric.result marks 0 b.points) c.as_slice-2.ensures.value ∙ ap (λ ranks. t2 ++ marked_text ranks points 0 b.points) c.symmetric.ensures)
     c.in_ok-writeln-2.ensures.bytes
-    (c.in_ok-steps.ensures.text ∙ ap (λ xs. xs ++ parts_text (problem_of t b.rounds) (executions t b.rounds) (Some (start (problem_of t b.rounds))) (parts_of (map line_of c.args.lines.now))) c.new-parts.ensures.bytes)
+    (c.in_ok-steps.ensures.text ∙ ap (λ xs. xs ++ parts_text (problem_of t b.rounds) (named_executions t b.rounds) (Some (start (problem_of t b.rounds))) (parts_of (map line_of c.args.lines.now))) c.new-parts.ensures.bytes)
     (c.in_ok-push_str.ensures.bytes ∙ ap (λ xs. t4 ++ xs) c.as_str.ensures.value)
     (ap (λ v. v.items) c.into_bytes.ensures.value)

@@ -1,5 +1,5 @@
 use Rattle.std.proofs.Common.{codes, string_bytes}
-use Rattle.wf_argument.specs.Text.{margin, name}
+use Rattle.wf_argument_words.specs.Text.{margin, name}
 use Rattle.wf_argument.proofs.TextParts.{one_line}
 use Rattle.wf_argument.proofs.parts.put_emptied.Goals as goal
 

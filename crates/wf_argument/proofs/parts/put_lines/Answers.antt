@@ -1,7 +1,7 @@
 use Rattle.std.proofs.Common.{◌++◌, Some, length, map, string_bytes, ap, sym, ◌∙◌, arith}
-use Rattle.wf_model.specs.Execution.{executions}
 use Rattle.wf_model.specs.Problem.{problem_of}
 use Rattle.wf_lines.specs.Lines.{line_of}
+use Rattle.wf_argument_words.specs.Text.{named_executions}
 use Rattle.wf_argument.specs.Parts.{parts_of}
 use Rattle.wf_argument.specs.Text.{parts_text, steps_made}
 use Rattle.wf_argument.proofs.parts.put_lines.Goals as goal
@@ -16,7 +16,7 @@ returns-clause-text c =
     let t = c.args.task.now in let r = c.args.protocol.now.rounds in
     let p = problem_of t r in
     c.in_ok-put_parts.ensures.text
-    ∙ ap (λ s. string_bytes c.args.text.now ++ parts_text p (executions t r) (Some s) (parts_of (map line_of c.args.lines.now)))
+    ∙ ap (λ s. string_bytes c.args.text.now ++ parts_text p (named_executions t r) (Some s) (parts_of (map line_of c.args.lines.now)))
     (c.in_ok-state.ensures.state p (ap length (sym c.requires.points_are) ∙ sym c.points.ensures.points))
 
 pub returns-clause-steps : goal.returns-clause-steps

@@ -4,7 +4,8 @@ use Rattle.wf_model.specs.Problem.{constraint_at}
 use Rattle.wf_lines.specs.Lines.{line_of}
 use Rattle.wf_argument.specs.Parts.{takes, closes, splits, parts_of}
 use Rattle.wf_argument.specs.State.{after_taking, cases_at, entered}
-use Rattle.wf_argument.specs.Subject.{executions_in, problem_in, same_values, steps_to_come, to_come}
+use Rattle.wf_argument_words.specs.Subject.{executions_in, problem_in}
+use Rattle.wf_argument.specs.Subject.{same_values, steps_to_come, to_come}
 use Rattle.wf_argument.specs.Text.{split_text, told_taking}
 use Rattle.wf_argument.specs.Trail.{state_of}
 use Rattle.wf_argument.proofs.TextParts.{after_one, counted_part, first_line, one_run, steps_after_one, told_part}

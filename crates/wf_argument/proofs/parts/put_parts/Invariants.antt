@@ -1,5 +1,6 @@
 use Rattle.std.proofs.Common.{◌≡◌, ◌≤◌, ◌++◌, ◌+◌, ◌-◌, length, string_bytes, Some}
-use Rattle.wf_argument.specs.Subject.{problem_in, steps_to_come, to_come}
+use Rattle.wf_argument_words.specs.Subject.{problem_in}
+use Rattle.wf_argument.specs.Subject.{steps_to_come, to_come}
 use Rattle.wf_argument.specs.Trail.{values_of}
 use Rattle.wf_argument.proofs.parts.put_parts.Given as goal
 

@@ -1,4 +1,7 @@
+use Rattle.std.proofs.Common.{◌++◌, string_bytes, ap, ◌∙◌}
 use Rattle.wf_io.proofs.FailedCalls.{failed}
+use Rattle.wf_argument_words.specs.Text.{rest_text}
+use Rattle.wf_argument.proofs.TextParts.{step_line}
 use Rattle.wf_argument.proofs.steps.put_step.Goals as goal
 
 pub returns-in_err-put_margin : goal.returns-in_err-put_margin
@@ -21,3 +24,9 @@ returns-in_err-put_rest c = failed c.from_residual-in_err-put_rest.result _ c.fr
 
 pub returns-in_err-writeln : goal.returns-in_err-writeln
 returns-in_err-writeln c = failed c.from_residual-in_err-writeln.result _ c.from_residual-in_err-writeln.ensures.0
+
+pub returns : goal.returns
+returns c =
+    step_line (string_bytes c.args.text.now) (string_bytes c.put_margin.new.text) (string_bytes c.put_claim.new.text) (string_bytes c.put.new.text) (string_bytes c.write.new.self) (string_bytes c.put_grounds.new.text) (string_bytes c.put_rest.new.text) (string_bytes c.writeln.new.self)
+    _ _ _ _ _ _ _ c.in_ok-put_margin.ensures c.in_ok-put_claim.ensures c.in_ok-put.ensures c.in_ok-write.ensures.bytes c.in_ok-put_grounds.ensures
+    (c.in_ok-put_rest.ensures ∙ ap (λ left. string_bytes c.put_grounds.new.text ++ rest_text c.args.step.now.point left) c.left.ensures) c.in_ok-writeln.ensures.bytes

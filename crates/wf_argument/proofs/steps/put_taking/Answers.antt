@@ -3,7 +3,7 @@ use Rattle.std.proofs.lemmas.Option.{slice_get_within}
 use Rattle.std.proofs.lemmas.Result.{on_ok_weaker}
 use Rattle.wf_complex.proofs.Lemmas.{rule_inside}
 use Rattle.wf_argument.specs.State.{after_taking}
-use Rattle.wf_argument.specs.Subject.{executions_in, problem_in}
+use Rattle.wf_argument_words.specs.Subject.{executions_in, problem_in}
 use Rattle.wf_argument.specs.Text.{told_taking}
 use Rattle.wf_argument.specs.Trail.{state_of}
 use Rattle.wf_argument.proofs.Places.{not_there, there, told_nobody}

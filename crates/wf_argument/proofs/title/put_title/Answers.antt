@@ -1,5 +1,5 @@
 use Rattle.std.proofs.Common.{◌++◌, codes, string_bytes}
-use Rattle.wf_argument.specs.Text.{counted}
+use Rattle.wf_argument_words.specs.Text.{counted}
 use Rattle.wf_argument.specs.Used.{usage_of}
 use Rattle.wf_complex.proofs.Lemmas.{and_more}
 use Rattle.wf_argument.proofs.title.put_title.Goals as goal

@@ -1,6 +1,12 @@
-use Rattle.std.proofs.Common.{◌≡◌, ◌++◌, string_bytes, drop, None}
-use Rattle.wf_argument.specs.Text.{reasons_text}
+use Rattle.std.proofs.Common.{◌≡◌, ◌≤◌, ◌++◌, ◌-◌, string_bytes, drop, length, None}
+use Rattle.wf_argument.specs.Text.{reasons_from}
 use Rattle.wf_argument.proofs.words.put_reasons.Given as goal
 
-abbrev pub invariant-loop-reason : goal.invariant-loop-reason
-invariant-loop-reason l = string_bytes l.text ++ reasons_text l.before (drop l.reason-index l.reasons) ≡ string_bytes l.initial.text ++ reasons_text None l.reasons
+abbrev pub invariant-reasons : goal.invariant-reasons
+invariant-reasons l = record {
+  text : string_bytes l.text ++ reasons_from l.before 0 (drop l.told l.reasons) ≡ string_bytes l.initial.text ++ reasons_from None 0 l.reasons;
+  within : l.told ≤ length l.reasons;
+}
+
+abbrev pub decreases-reasons : goal.decreases-reasons
+decreases-reasons l = length l.reasons - l.told

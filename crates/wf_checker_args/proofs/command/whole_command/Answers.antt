@@ -16,4 +16,5 @@ returns c =
     let has_task = taken _ _ _ _ _ c.arg-command.ensures c.task.ensures begun in
     let has_rounds = c.taking-command.ensures _ _ has_task c.optional.ensures in
     let has_proof = c.taking-command-2.ensures _ _ has_rounds c.flag.ensures in
-    IfOk-weaker c.taking.result (IsLeaf command_line.top) _ (λ command leaf. leaf.0) (c.taking.ensures _ _ has_proof c.flag-2.ensures)
+    let has_lrat = c.taking-command-3.ensures _ _ has_proof c.flag-2.ensures in
+    IfOk-weaker c.taking.result (IsLeaf command_line.top) _ (λ command leaf. leaf.0) (c.taking.ensures _ _ has_lrat c.flag-3.ensures)

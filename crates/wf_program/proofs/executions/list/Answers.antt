@@ -1,5 +1,5 @@
 use Rattle.std.proofs.Common.{ap}
-use Rattle.wf_argument.specs.Listing.{executions_text}
+use Rattle.wf_argument_words.specs.Listing.{executions_text}
 use Rattle.wf_run.specs.Run.{HasComplex}
 use Rattle.wf_run.proofs.RunsInPieces.{beyond_build, broken, refused, written}
 use Rattle.wf_program.proofs.executions.list.Goals as goal

@@ -1,0 +1,191 @@
+"""Random proofs about small questions, and what `wfcheck proof` has to say of each: a part of checks/fuzz.
+
+Half of the proofs have hints. Most of their steps are taken: clauses that follow, definitions of new variables and other resolution
+asymmetric tautologies, and deletions; some have a fault. The program has to answer what oracle/rup.py or oracle/lrat.py does, with the
+very line of a refusal. No proof may be accepted of a question that has a model, whatever that oracle says: models are looked for here."""
+import json
+import pathlib
+import random
+import tempfile
+from typing import NamedTuple
+
+import finder
+import lrat
+import rup
+
+# how often a step is made anew that would be refused, how often it is left so, and how often bytes of a proof are changed
+TRIES, FAULTY, OTHER_BYTES = 12, 0.06, 0.15
+BYTES = [*(b"%d" % it for it in range(10)), b"-", b" ", b"\n", b"\r", b"\t", b" 0", b"d", b"d ", b"c", b"%", b"a", b"x", b"+", b"\0", b"\x7f", b"\xff", b"\x0b"]
+
+
+class Proof(NamedTuple):
+    """A task's text, a number of rounds, and a proof, with hints or without."""
+    task: bytes
+    rounds: int
+    has_hints: bool
+    text: bytes
+
+
+def case(seed, number):
+    """A proof by its number."""
+    choose = random.Random(f"proofs {seed}:{number}")
+    task = finder.random_task(choose)
+    rounds = choose.choice([0, 0, 0, 1]) if json.loads(task)["processes"] == 2 else 0
+    variables, clauses = rup.question(json.loads(task), rounds)
+    has_hints = choose.random() < 0.5
+    steps = (hinted_steps if has_hints else plain_steps)(choose, variables, clauses)
+    text = b"\n".join(steps) + choose.choice([b"", b"\n", b"\n", b"\n"])
+    return Proof(task, rounds, has_hints, with_other_bytes(choose, text) if choose.random() < OTHER_BYTES else text)
+
+
+def with_other_bytes(choose, text):
+    """A text of which some bytes are left out, put in, or turned."""
+    for _ in range(choose.choice([1, 1, 2, 3])):
+        at = choose.randrange(len(text) + 1)
+        text = text[:at] + choose.choice([b"", *BYTES]) + text[at + choose.randrange(2):]
+    return text
+
+
+def words(numbers):
+    """Numbers as a step has them."""
+    return b" ".join(b"%d" % it for it in [*numbers, 0])
+
+
+def clause(choose, variables, clauses):
+    """A clause that may follow from these."""
+    how, some = choose.randrange(5), list(choose.choice(clauses))
+    if how == 0 or not some:
+        return [choose.choice([-1, 1]) * choose.randint(1, variables) for _ in range(choose.choice([1, 1, 2, 3]))]
+    if how == 1:
+        return [*some, choose.choice([-1, 1]) * choose.randint(1, variables)]
+    if how == 2:
+        choose.shuffle(some)
+        return some[1:]
+    pivot = choose.choice(some)
+    others = [it for it in clauses if -pivot in it]
+    joined = {*some, *(choose.choice(others) if others else [])} - {pivot, -pivot}
+    return choose.sample(sorted(joined), len(joined))
+
+
+def definition(choose, variables):
+    """Clauses that say that the next variable is the conjunction of some literals, in an order that may be wrong."""
+    parts = [choose.choice([-1, 1]) * choose.randint(1, variables) for _ in range(choose.choice([1, 2, 2, 3]))]
+    found = [[variables + 1, *(-it for it in parts)], *([-variables - 1, it] for it in parts)]
+    if choose.random() < 0.2:
+        choose.shuffle(found)
+    return found
+
+
+def plain_steps(choose, variables, clauses):
+    """The lines of a proof without hints, which ends in the contradiction at most times."""
+    kept, there, lines = rup.Kept(clauses), [*clauses], []
+
+    def add(lemma):
+        """Adds a lemma, if it is one that is taken, or to be a fault."""
+        taken = kept.is_refuted or kept.follows(lemma) or kept.is_rat(lemma)
+        if taken or choose.random() < FAULTY:
+            lines.append(words(lemma))
+            there.append(lemma)
+            if taken:
+                kept.add(lemma)
+        return taken
+
+    for _ in range(choose.randint(1, 10)):
+        how = choose.randrange(6)
+        if how == 0:
+            gone = choose.choice(there)
+            lines.append(b"d " + words(choose.sample(gone, len(gone))))
+            kept.delete(gone)
+        elif how == 1:
+            for lemma in definition(choose, variables):
+                add(lemma)
+            variables += 1
+        else:
+            for _ in range(TRIES):
+                if add(clause(choose, variables, there)):
+                    break
+    return lines + [b"0"] * (choose.random() < 0.9)
+
+
+def hints_of(ledger, lemma):
+    """Hints that lead to a conflict from the negation of a lemma, or as many as tell something."""
+    false, hints, found = set(lemma), [], True
+    while found:
+        found = False
+        for at, each in ledger.clauses.items():
+            left = [it for it in each if it not in false]
+            if not left:
+                return [*hints, at]
+            if len(left) == 1 and -left[0] not in false:
+                false.add(-left[0])
+                hints.append(at)
+                found = True
+    return hints
+
+
+def with_a_fault(choose, hints, last):
+    """Hints of which one is left out, put in, or turned."""
+    hints = [*hints]
+    at = choose.randrange(len(hints) + 1)
+    hints[at:at + choose.randrange(2)] = choose.choice([[], [choose.randint(1, last + 1)], [-choose.randint(1, last)]])
+    return hints
+
+
+def hinted_steps(choose, variables, clauses):
+    """The lines of a proof with hints, which ends in the contradiction at most times."""
+    ledger, lines = lrat.Ledger(clauses), []
+
+    def add(lemma):
+        """Adds a lemma, if it follows, or to be a fault."""
+        name, hints = ledger.last + choose.choice([1, 1, 1, 2, 7]), hints_of(ledger, lemma)
+        hints = with_a_fault(choose, hints, ledger.last) if choose.random() < FAULTY else hints
+        try:
+            ledger.copy().learn(0, name, lemma, hints)
+        except rup.Refused:
+            if choose.random() >= FAULTY:
+                return False
+        lines.append(b"%d %s %s" % (name, words(lemma), words(hints)))
+        ledger.clauses[name], ledger.last, ledger.many = lemma, name, ledger.many + 1
+        return True
+
+    for _ in range(choose.randint(1, 10)):
+        if choose.randrange(6) == 0 and ledger.clauses:
+            gone = [choose.choice([*ledger.clauses, ledger.last + 1]) for _ in range(choose.randint(0, 2))]
+            lines.append(b"%d d %s" % (ledger.last, words(gone)))
+            ledger.delete(gone)
+        elif ledger.clauses:
+            for _ in range(TRIES):
+                if add(clause(choose, variables, [*ledger.clauses.values()])):
+                    break
+    if choose.random() < 0.9:
+        lines.append(b"%d 0 %s" % (ledger.last + 1, words(hints_of(ledger, []))))
+    return lines
+
+
+def has_model(clauses, held=frozenset()):
+    """Whether some literals beside those that hold satisfy all clauses."""
+    left = [[it for it in each if -it not in held] for each in clauses if not held & {*each}]
+    if not left:
+        return True
+    shortest = min(left, key=len)
+    return any(has_model(left, held | {it}) for it in shortest)
+
+
+def wrong(run, proof):
+    """What is wrong with what the program says of a proof, or None; and what it says in a word."""
+    task = json.loads(proof.task)
+    variables, clauses = rup.question(task, proof.rounds)
+    if proof.has_hints:
+        refusal = lrat.judge(lrat.Ledger(clauses), variables, proof.text)
+    else:
+        refusal = rup.judge(rup.Kept(clauses), variables, proof.text)
+    with tempfile.TemporaryDirectory() as folder:
+        file = pathlib.Path(folder) / "task.json"
+        file.write_bytes(proof.task)
+        ran = run(["proof", "--task", str(file), "--rounds", str(proof.rounds), *["--lrat"] * proof.has_hints], proof.text)
+    said = ran.stderr.split(b" ")[1:3][-1:] or [b"accepted"]
+    if ran.returncode == 0 and has_model(clauses):
+        return "accepted, and the question has a model", "accepted"
+    answer = (2, b"", f"wfcheck: {refusal}\n".encode()) if refusal else (0, rup.accepted(proof.rounds).encode(), b"")
+    fault = None if (ran.returncode, ran.stdout, ran.stderr) == answer else f"should be {answer}: {ran.returncode}, {ran.stdout[:80]}, {ran.stderr[:80]}"
+    return fault, said[0].decode(errors="replace").strip()

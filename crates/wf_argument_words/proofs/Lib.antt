@@ -1,0 +1,5 @@
+mod ExecutionPlaces
+mod ListsInWords
+mod Margins
+mod Pieces
+mod ValuesInWords

@@ -1,0 +1,24 @@
+//! The words of an argument: numbers, values, points, tuples and executions.
+//!
+//! - [`Executions`]: the executions of a task in words.
+//! - [`write_executions`]: all of them, with their points.
+//! - [`put_values`], [`put_rest`], [`put_needed`]: what a step says of values and tuples.
+//! - [`list_values`]: the values of a set.
+//! - [`put_count`], [`put_margin`]: numbers of things, and margins.
+//! - [`Subject`]: what an argument is about.
+//!
+//! `specs/` says what they are: `Text` has the words, `Listing` the list of executions, and `Table`
+//! what executions are told by.
+#![tactic(auto)]
+
+mod executions;
+mod listed;
+mod subject;
+mod values;
+mod words;
+
+pub use executions::Executions;
+pub use listed::write_executions;
+pub use subject::Subject;
+pub use values::{list_values, put_rest, put_values};
+pub use words::{put_count, put_margin, put_needed};

@@ -1,0 +1,12 @@
+pub mod BadLines
+pub mod Chains
+pub mod Fronts
+pub mod Steps
+pub mod Rooms
+pub mod Fills
+pub mod Whole
+pub mod Bodies
+pub mod Texts
+pub mod Reports
+pub mod LongCounts
+pub mod LongHeadline
