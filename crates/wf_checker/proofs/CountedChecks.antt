@@ -10,10 +10,10 @@ use Rattle.wf_model.specs.Limits.{most_bytes}
 use Rattle.wf_long.specs.Long.{most_report_bytes}
 use Rattle.wf_long.proofs.LongCounts.{long_counted}
 use Rattle.wf_words.specs.declared.fault.WordsFault.{WordsFault}
-use Rattle.wf_files.specs.Files.{Filing, Opens}
+use Rattle.wf_files.specs.Files.{Filing, Opens, state_of}
 use Rattle.wf_files.specs.Laws.{Checked, IsFiled, IsFileRun}
 use Rattle.wf_files.proofs.FileCounts.{counted, unasked, without}
-use Rattle.wf_service.specs.Refusals.{as_refusal, fault_status, refusal_status}
+use Rattle.wf_service.specs.Refusals.{as_file_refusal, fault_status, refusal_status}
 use Rattle.wf_service.specs.declared.refusal.Refusal.{Refusal}
 use Rattle.wf_service.specs.Laws.{IsDeclined, calls_by, calls_by_status}
 use Rattle.wf_service.proofs.DeclinedWords.{calls_of_fault, declined, has_status, two_or_three}
@@ -42,7 +42,7 @@ record IsDone {F : Type 0} (files most : ℕ) (folder folder' : Filing F) (sourc
 
 module _ {F : Type 0} (folder folder' : Filing F) (source source' : Reading) (sink sink' : Writing) where
   of_run : (most : ℕ) (result : Result (Unit {0}) RunFault) → IsFileRun most folder folder' source source' sink sink' result
-      → IsDone 1 most folder folder' source source' sink sink' (as_refusal result)
+      → IsDone 1 most folder folder' source source' sink sink' (as_file_refusal (state_of folder'.kept) result)
   of_run most (Ok done) h = record { failed = h.of_file; filed = h.filed; failures = h.failures; taken = h.taken; unwritten = tt }
   of_run most (Err e) h =
       let calls = calls_of_fault e in

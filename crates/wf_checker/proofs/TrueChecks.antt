@@ -15,9 +15,9 @@ use Rattle.wf_verify_engine.proofs.HintCounts.{hinted_refutations_true}
 use Rattle.wf_long.specs.Long.{VerifiesLong}
 use Rattle.wf_long.proofs.LongHeadline.{long_acceptances_true}
 use Rattle.wf_words.specs.declared.fault.WordsFault.{WordsFault}
-use Rattle.wf_files.specs.Files.{Filing, Opens, unread}
+use Rattle.wf_files.specs.Files.{Filing, Opens, state_of, unread}
 use Rattle.wf_files.specs.FileRuns.{WithFile, without_answer}
-use Rattle.wf_service.specs.Refusals.{as_refusal}
+use Rattle.wf_service.specs.Refusals.{as_file_refusal}
 use Rattle.wf_service.specs.declared.refusal.Refusal.{Refusal}
 use Rattle.wf_service.proofs.DeclinedWords.{has_status}
 use Rattle.wf_checker_args.specs.declared.job.Check.{Check}
@@ -50,7 +50,7 @@ module _ (task task' source source' : Reading) (sink sink' : Writing) where
 
 module _ {F : Type 0} (folder folder' : Filing F) (source source' : Reading) (sink sink' : Writing) where
   of_run : (opens : Opens) (job : CheckJob) (result : Result (Unit {0}) RunFault) → WithFile (opens (string_bytes job.task)) (Checks job.check) folder folder' source source' sink sink' result
-      → Ok tt ≡ as_refusal result → IsTrueOf (Ok job) folder folder' source source' sink sink'
+      → Ok tt ≡ as_file_refusal (state_of folder'.kept) result → IsTrueOf (Ok job) folder folder' source source' sink sink'
   of_run opens job (Ok u) (inl (left, file', opened, same, does)) is = (left, file', same, of_check (unread left) file' source source' sink sink' job.check does)
   of_run opens job (Ok u) (inr (gone, same, none, read, wrote)) is = absurd (let bad : ⊥ = cc in bad)
   of_run opens job (Err e) done is = absurd (let bad : ⊥ = cc in bad)

@@ -9,9 +9,9 @@ use Rattle.wf_verify_engine.specs.Hints.{RefutesByHints}
 use Rattle.wf_run.specs.declared.fault.RunFault.{RunFault}
 use Rattle.wf_words.specs.Asked.{GivenWords, IsAsked}
 use Rattle.wf_words.specs.declared.fault.WordsFault.{WordsFault}
-use Rattle.wf_files.specs.Files.{CanAsk, Filing, Opening, Opens}
+use Rattle.wf_files.specs.Files.{CanAsk, Filing, Opening, Opens, state_of}
 use Rattle.wf_files.specs.FileRuns.{Did, DoesBoth, WithFile}
-use Rattle.wf_service.specs.Refusals.{Refuses, as_refusal}
+use Rattle.wf_service.specs.Refusals.{Refuses, as_file_refusal}
 use Rattle.wf_service.specs.Showing.{DeclinesAs}
 use Rattle.wf_service.specs.declared.refusal.Refusal.{Refusal}
 use Rattle.wf_checker_args.specs.Asked.{job_asked}
@@ -29,7 +29,7 @@ Checks (HintedProof rounds) task task' source source' sink sink' result = Refute
 -- a certificate about the task in a file was checked, and a run that is refused is a refusal
 abbrev pub ChecksFile : {F : Type 0} → (Opening → Type 0) → Check → Filing F → Filing F → Reading → Reading → Writing → Writing → Result (Unit {0}) Refusal → Type 0
 ChecksFile comes check folder folder' source source' sink sink' done =
-    (result : Result (Unit {0}) RunFault) × WithFile comes (Checks check) folder folder' source source' sink sink' result × (done ≡ as_refusal result)
+    (result : Result (Unit {0}) RunFault) × WithFile comes (Checks check) folder folder' source source' sink sink' result × (done ≡ as_file_refusal (state_of folder'.kept) result)
 
 -- the certificate was checked about the task in the file, which is among those that may be opened
 -- under its path

@@ -15,7 +15,7 @@ use std::thread::Threads;
 use wf_checker_args::{CheckJob, read_words};
 use wf_files::{Files, Opener, run_with_file};
 use wf_io::{Sink, Source};
-use wf_service::{Program, Refusal, as_refusal, decline, refuse};
+use wf_service::{Program, Refusal, as_file_refusal, decline, refuse};
 use wf_words::WordsFault;
 
 /// What a check is done with: threads and memory.
@@ -37,8 +37,8 @@ const WFVERIFY: Program = Program {
 ///
 /// 0: the certificate is accepted, and the line on the sink says what is; or a help or the version
 /// was written. 2: the task, the certificate or the words are refused. 3: memory ran out. 4: a read
-/// or a write failed, or the file could not be opened. A refusal is one line on `errors`, with a
-/// second one if words are read that make no job.
+/// or a write failed, or the file could not be opened. A refusal is one line on `errors`. A second
+/// line says which words make no job, or which of two inputs is meant.
 pub fn run_checker<T: Threads + Sync, F: Files, R: Read, W: Write, E: Write>(
     rt: &T,
     alloc: Global,
@@ -102,7 +102,8 @@ fn check_file<T: Threads + Sync, F: Files, R: Read, W: Write>(
     ensures { ChecksFile (F.opens folder.old.files path.now) run.now.check folder.old folder.new
         source.old source.new sink.old sink.new result }
 {
-    as_refusal(run_with_file(run, folder, path, source, sink))
+    let found = run_with_file(run, folder, path, source, sink);
+    as_file_refusal(found, folder.last())
 }
 
 /// There is no job in the words: a help or the version goes to the sink, and the rest is refused.

@@ -1,6 +1,8 @@
 -- What may come of opening a file, and what clauses see of what opens files.
-use Rattle.std.specs.Prelude.{◌≡◌, ◌+◌, ◌-◌, ◌^◌, ◌<◌, ℕ, List, Option, Some, None}
+use Rattle.std.specs.Prelude.{◌≡◌, ◌+◌, ◌-◌, ◌^◌, ◌<◌, ◌==◌, ℕ, List, Option, Some, None, if◌then◌else◌}
 use Rattle.wf_io.specs.Seen.{Reading}
+use Rattle.wf_files.specs.declared.files.FileState.{FileState}
+use Rattle.wf_files.specs.declared.files.FileState.TheVariants.{Unopened, Unread, Sound}
 
 -- it can't be opened, or it is, and then it has these bytes, where they are known
 pub data Opening : Type 0 where
@@ -31,6 +33,11 @@ unread left = record { left = left; failures = 0; taken = 0 }
 -- left, where it was opened
 abbrev pub after_asking : {F : Type 0} → Filing F → ℕ → Option Reading → Filing F
 after_asking folder failed kept = record { files = folder.files; asked = folder.asked + 1; failures = folder.failures + failed; kept = kept }
+
+-- how it went with a file whose source was left so, or that could not be opened
+abbrev pub state_of : Option Reading → FileState
+state_of None = Unopened
+state_of (Some file) = if file.failures == 0 then Sound else Unread
 
 -- the source of the file that was asked for last is kept
 abbrev pub keeping : {F : Type 0} → Filing F → Reading → Filing F

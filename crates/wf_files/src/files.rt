@@ -1,7 +1,7 @@
 //! The files that words name.
 
 ghost use Rattle.std.specs.Prelude.{◌≡◌, ℕ, List, None, IfErr, IfOk, option_copied};
-ghost use Rattle.wf_files.specs.Files.{AsksFor, CanAsk, Filing, Opening, keeping, opened, refused};
+ghost use Rattle.wf_files.specs.Files.{AsksFor, CanAsk, Filing, Opening, keeping, opened, refused, state_of};
 
 use std::io;
 use std::io::Read;
@@ -21,6 +21,17 @@ pub trait Files {
         ensures file { IfOk result
             (λ file. opens self.now path.now (opened (Self.File.remaining file))) }
         ensures none { IfErr result (λ _. opens self.now path.now refused) };
+}
+
+/// How it went with the file that was asked for last.
+#[derive(Clone, Copy, Debug, PartialEq, Eq)]
+pub enum FileState {
+    /// It could not be opened.
+    Unopened,
+    /// It was opened, and a read of it failed.
+    Unread,
+    /// It was opened, and no read of it failed.
+    Sound,
 }
 
 /// What opens files, how many it was asked for, how many of these could not be opened, and the
@@ -80,6 +91,18 @@ impl<F: Files> Opener<F> {
         ensures { option_copied result ≡ self.now.kept }
     {
         self.kept.as_ref()
+    }
+
+    /// How it went with the file that was asked for last. If none was asked for, it counts as one
+    /// that could not be opened.
+    pub fn last(&self) -> FileState
+        ensures { result ≡ state_of self.now.kept }
+    {
+        match &self.kept {
+            None => FileState::Unopened,
+            Some(file) if file.failures() > 0 => FileState::Unread,
+            Some(_) => FileState::Sound,
+        }
     }
 
     /// The source of the file under a path, before any call of it. There is

@@ -13,6 +13,6 @@ mod runs;
 mod tests;
 
 pub use disk::{Disk, hold_closed_streams};
-pub use files::{Files, Opener};
+pub use files::{FileState, Files, Opener};
 pub use laws::file_runs_are_counted;
 pub use runs::{TaskRun, run_with_file, without_answer};

@@ -42,11 +42,11 @@ use Rattle.wf_obstruction_engine.specs.Laws.{IsSeekingCounted}
 use Rattle.wf_obstruction_engine.specs.declared.finding.Finding.{Finding}
 use Rattle.wf_obstruction_engine.specs.declared.finding.Finding.TheVariants as finding
 use Rattle.wf_obstruction_engine.proofs.SearchRuns.{seeking_counted}
-use Rattle.wf_files.specs.Files.{Filing, Opening, Opens}
+use Rattle.wf_files.specs.Files.{Filing, Opening, Opens, state_of}
 use Rattle.wf_files.specs.FileRuns.{WithFile}
 use Rattle.wf_files.specs.Laws.{Checked, IsFiled, IsFileRun}
 use Rattle.wf_files.proofs.FileCounts as files
-use Rattle.wf_service.specs.Refusals.{fault_status, refusal_status}
+use Rattle.wf_service.specs.Refusals.{as_file_refusal, fault_status, refusal_status}
 use Rattle.wf_service.specs.Laws.{IsDeclined, calls_by, calls_by_status}
 use Rattle.wf_service.specs.declared.refusal.Refusal.{Refusal}
 use Rattle.wf_service.specs.declared.refusal.Refusal.TheVariants as refusal
@@ -57,7 +57,7 @@ use Rattle.wf_program.specs.declared.filed.FileJob.{FileJob}
 use Rattle.wf_program.specs.declared.filed.FileJob.TheVariants as filed
 use Rattle.wf_program.specs.declared.texts.TextJob.{TextJob}
 use Rattle.wf_program.specs.declared.texts.TextJob.TheVariants as text
-use Rattle.wf_program.specs.Program.{ChecksProofBy, DoesAsked, DoesWithFile, Ends, ListsQuestion, WritesTextOf, searched, shown, solved, sought, written}
+use Rattle.wf_program.specs.Program.{ChecksProofBy, DoesAsked, DoesWithFile, Ends, ListsQuestion, WritesTextOf, finished, searched, solved, sought, written}
 use Rattle.wf_program.specs.Laws.{IsServed, file_count, most_read}
 
 -- how many bytes the text may have that is read of the source
@@ -157,7 +157,7 @@ module _ {F : Type 0} (folder folder' : Filing F) (same : folder' ≡ folder) (s
   wrote : (what : TextJob) (done : Result Done Refusal) (result : Result (Unit {0}) RunFault) → WritesTextOf what source source' sink sink' result → done ≡ written result → Alone done
   wrote what done result writes is = subst Alone (sym is) (after_writing result (text_counted what result writes))
 
-  declined_as : (result : Result (Unit {0}) Refusal) → source' ≡ source → IsDeclined sink sink' result → Alone (shown result)
+  declined_as : (result : Result (Unit {0}) Refusal) → source' ≡ source → IsDeclined sink sink' result → Alone (finished result)
   unfolding Alone
   declined_as (Ok u) read h =
       let reads : source'.failures ≡ source.failures = ap (λ s. s.failures) read in
@@ -195,7 +195,7 @@ did_with (filed.Lift rounds) file file' source source' sink sink' result does = 
 
 -- what holds after something was done with the task in a file
 of_file : {F : Type 0} (most : ℕ) (folder folder' : Filing F) (source source' : Reading) (sink sink' : Writing) (result : Result (Unit {0}) RunFault)
-    → IsFileRun most folder folder' source source' sink sink' result → IsDone 1 most folder folder' source source' sink sink' (written result)
+    → IsFileRun most folder folder' source source' sink sink' result → IsDone 1 most folder folder' source source' sink sink' (finished (as_file_refusal (state_of folder'.kept) result))
 of_file most folder folder' source source' sink sink' (Ok u) h =
     record { failed = h.of_file; filed = h.filed; answered = quiet sink sink' _ (omega arith); failures = h.failures; taken = h.taken; unwritten = tt }
 of_file most folder folder' source source' sink sink' (Err e) h =
@@ -210,7 +210,7 @@ of_file most folder folder' source source' sink sink' (Err e) h =
     }
 
 with_file : {F : Type 0} (f : FileJob) (comes : Opening → Type 0) (folder folder' : Filing F) (source source' : Reading) (sink sink' : Writing) (done : Result Done Refusal)
-    → (result : Result (Unit {0}) RunFault) × WithFile comes (DoesWithFile f) folder folder' source source' sink sink' result × (done ≡ written result)
+    → (result : Result (Unit {0}) RunFault) × WithFile comes (DoesWithFile f) folder folder' source source' sink sink' result × (done ≡ finished (as_file_refusal (state_of folder'.kept) result))
     → IsDone 1 (most_with f) folder folder' source source' sink sink' done
 with_file f comes folder folder' source source' sink sink' done (result, does, is) =
     subst (IsDone 1 (most_with f) folder folder' source source' sink sink') (sym is)

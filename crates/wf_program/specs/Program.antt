@@ -40,9 +40,9 @@ use Rattle.wf_words.specs.declared.fault.WordsFault.{WordsFault}
 use Rattle.wf_args.specs.Asked.{job_asked}
 use Rattle.wf_args.specs.declared.Job.{Job}
 use Rattle.wf_args.specs.declared.Job.TheVariants.{Solve, SolveBranch, Verify, VerifyLong, VerifyBranch, Views, Points, Branches, Join, Cnf, Model, Proof, Decisions, Trim, Explain, Lift, Executions, Obstruction, Preset}
-use Rattle.wf_files.specs.Files.{Opening, Opens, Filing, CanAsk}
+use Rattle.wf_files.specs.Files.{Opening, Opens, Filing, CanAsk, state_of}
 use Rattle.wf_files.specs.FileRuns.{Did, DoesBoth, WithFile}
-use Rattle.wf_service.specs.Refusals.{Refuses, refusal_line}
+use Rattle.wf_service.specs.Refusals.{Refuses, as_file_refusal, refusal_line}
 use Rattle.wf_service.specs.Showing.{DeclinesAs}
 use Rattle.wf_service.specs.declared.refusal.Refusal.{Refusal}
 use Rattle.wf_service.specs.declared.refusal.Refusal.TheVariants.{Run}
@@ -98,10 +98,10 @@ abbrev pub written : Result (Unit {0}) RunFault → Result Done Refusal
 written (Ok done) = Ok (record { status = 0; note = None })
 written (Err e) = Err (Run e)
 
--- a text that the words ask for was shown
-abbrev pub shown : Result (Unit {0}) Refusal → Result Done Refusal
-shown (Ok done) = Ok (record { status = 0; note = None })
-shown (Err e) = Err e
+-- something was done that answers nothing of its own
+abbrev pub finished : Result (Unit {0}) Refusal → Result Done Refusal
+finished (Ok done) = Ok (record { status = 0; note = None })
+finished (Err e) = Err e
 
 -- a proof about a task was checked: by its hints or without, about the whole or about one branch
 abbrev pub ChecksProofBy : ℕ → Option ℕ → Bool → DoesBoth (Unit {0})
@@ -201,7 +201,8 @@ filed_of job = None
 -- what a job does with the task in a file was done
 abbrev pub DoesFile : {F : Type 0} → (Opening → Type 0) → FileJob → Filing F → Filing F → Reading → Reading → Writing → Writing → Result Done Refusal → Type 0
 DoesFile comes what folder folder' source source' sink sink' done =
-    (result : Result (Unit {0}) RunFault) × WithFile comes (DoesWithFile what) folder folder' source source' sink sink' result × (done ≡ written result)
+    (result : Result (Unit {0}) RunFault) × WithFile comes (DoesWithFile what) folder folder' source source' sink sink' result
+    × (done ≡ finished (as_file_refusal (state_of folder'.kept) result))
 
 -- it was done with the task in the file, which is among those that may be opened under its path; or
 -- without one, and no file was asked for
@@ -219,7 +220,7 @@ Does opens job folder folder' source source' sink sink' done = DoesBy opens (fil
 -- there is no job in the words: a help or the version was shown, or they are refused
 abbrev pub DeclinesWords : WordsFault → Writing → Writing → Result Done Refusal → Type 0
 DeclinesWords e sink sink' done =
-    (result : Result (Unit {0}) Refusal) × DeclinesAs (codes "wfcheck") e sink sink' result × (done ≡ shown result)
+    (result : Result (Unit {0}) Refusal) × DeclinesAs (codes "wfcheck") e sink sink' result × (done ≡ finished result)
 
 -- the job was done; or there is none, and nothing was read, and no file was asked for
 abbrev pub DoesAsked : {F : Type 0} → Opens → Result Job WordsFault → Filing F → Filing F → Reading → Reading → Writing → Writing → Result Done Refusal → Type 0

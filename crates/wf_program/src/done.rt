@@ -2,7 +2,7 @@
 
 ghost use Rattle.std.specs.Prelude.{◌≡◌, Some};
 ghost use Rattle.wf_program.specs.AccountText.{account_line};
-ghost use Rattle.wf_program.specs.Program.{note_line, outcome_status, searched, shown, solved, sought, written};
+ghost use Rattle.wf_program.specs.Program.{finished, note_line, outcome_status, searched, solved, sought, written};
 
 use std::fmt;
 use wf_core::Account;
@@ -111,9 +111,9 @@ pub(crate) fn after_writing(found: Result<(), RunFault>) -> Result<Done, Refusal
     }
 }
 
-/// What is answered after a text that the words ask for was shown, or the words were refused.
-pub(crate) fn after_showing(found: Result<(), Refusal>) -> Result<Done, Refusal>
-    ensures { result ≡ shown found }
+/// What is answered after something was done that answers nothing of its own, or was refused.
+pub(crate) fn after_doing(found: Result<(), Refusal>) -> Result<Done, Refusal>
+    ensures { result ≡ finished found }
 {
     match found {
         Ok(()) => Ok(Done {

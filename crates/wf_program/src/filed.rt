@@ -7,7 +7,7 @@ ghost use Rattle.wf_files.specs.Files.{CanAsk};
 ghost use Rattle.wf_run.specs.Sources.{CanReadBoth};
 ghost use Rattle.wf_program.specs.Program.{ChecksProof, DoesFile, DoesWithFile, filed_of};
 
-use crate::done::{Done, after_writing};
+use crate::done::{Done, after_doing};
 use std::alloc::Global;
 use std::io::{Read, Write};
 use std::thread::Threads;
@@ -18,7 +18,7 @@ use wf_io::{Sink, Source};
 use wf_long::run_verify_long;
 use wf_report_engine::{run_explain, run_lift, run_trim};
 use wf_run::RunFault;
-use wf_service::Refusal;
+use wf_service::{Refusal, as_file_refusal};
 use wf_verify_engine::{
     ProofListener, run_decisions, run_hinted_proof, run_model, run_proof, run_verify_certificate,
 };
@@ -158,7 +158,8 @@ impl<'a, T: Threads + Sync, L: ProofListener> FileRun<'a, T, L> {
         ensures { DoesFile (F.opens folder.old.files path.now) self.now.job folder.old folder.new
             source.old source.new sink.old sink.new result }
     {
-        after_writing(run_with_file(self, folder, path, source, sink))
+        let found = run_with_file(self, folder, path, source, sink);
+        after_doing(as_file_refusal(found, folder.last()))
     }
 }
 

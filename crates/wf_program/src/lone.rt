@@ -23,6 +23,15 @@ use wf_pool::Gate;
 use wf_run::RunFault;
 use wf_service::Refusal;
 
+/// What a job is done with.
+#[derive(Clone, Copy)]
+pub(crate) struct Resources<'a, T, G> {
+    pub(crate) rt: &'a T,
+    pub(crate) alloc: Global,
+    // who is told how a job goes on, if progress is asked for
+    pub(crate) gate: &'a G,
+}
+
 /// What a job does without a file.
 #[derive(Clone, Copy)]
 pub(crate) enum LoneJob {
@@ -88,9 +97,7 @@ impl LoneJob {
     /// Does it. If progress is asked for, the gate is told of a search.
     pub(crate) fn run<T: Threads + Sync, G: Gate + Listener, R: Read, W: Write>(
         self,
-        rt: &T,
-        alloc: Global,
-        gate: &G,
+        resources: &Resources<'_, T, G>,
         source: &mut Source<R>,
         sink: &mut Sink<W>,
     ) -> Result<Done, Refusal>
@@ -98,6 +105,7 @@ impl LoneJob {
         requires limits { CanBeDoneAlone self }
         ensures { DoesAlone self source.old source.new sink.old sink.new result }
     {
+        let Resources { rt, alloc, gate } = *resources;
         match self {
             LoneJob::Solve {
                 wanted,

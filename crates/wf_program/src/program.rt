@@ -8,9 +8,9 @@ ghost use Rattle.wf_args.specs.Job.{CanBeDone};
 ghost use Rattle.wf_files.specs.Files.{CanAsk};
 ghost use Rattle.wf_program.specs.Program.{CanServe, DeclinesWords, Does, Ends, Serves};
 
-use crate::done::{Done, after_showing};
+use crate::done::{Done, after_doing};
 use crate::filed::{FileJob, FileRun};
-use crate::lone::LoneJob;
+use crate::lone::{LoneJob, Resources};
 use std::alloc::Global;
 use std::io::{Read, Write};
 use std::thread::Threads;
@@ -36,9 +36,10 @@ const WFCHECK: Program = Program {
 /// 0: a map or an obstruction was found, a report or a proof is accepted, or the text was written.
 /// 1: there is no map, or no obstruction was found. 2: the task, the rounds, the report, the proof
 /// or the words are refused, or the search for an obstruction gave up. 3: memory ran out. 4: a read
-/// or a write failed, or a file could not be opened. A refusal is one line on `errors`, with a
-/// second one where words are read that make no job. A note is one line too: the account of a
-/// search that was not refused, if the words ask for it, or the moduli without an obstruction.
+/// or a write failed, or a file could not be opened. A refusal is one line on `errors`. A second
+/// line says which words make no job, or which of two inputs is meant. A note is one line too: the
+/// account of a search that was not refused, if the words ask for it, or the moduli without an
+/// obstruction.
 ///
 /// If the words ask for progress, the gate is told of a search, or of the check of a proof, while
 /// that goes on. What a gate does then is the caller's: what it writes is no part of `errors`.
@@ -63,8 +64,9 @@ pub fn run_program<
     ensures { Serves (F.opens folder.old.files) words folder.old folder.new source.old source.new
         sink.old sink.new errors.old errors.new result }
 {
+    let resources = Resources { rt, alloc, gate };
     let done = match job_of(alloc, words) {
-        Ok(job) => do_job(rt, alloc, folder, gate, source, sink, &job),
+        Ok(job) => do_job(&resources, folder, &job, source, sink),
         Err(fault) => decline_words(alloc, sink, fault),
     };
     end(alloc, errors, done)
@@ -80,13 +82,11 @@ fn job_of(alloc: Global, words: Result<Vec<String>, WordsFault>) -> Result<Job, 
 
 /// Does what a job asks for.
 fn do_job<T: Threads + Sync, F: Files, G: Gate + Listener + ProofListener, R: Read, W: Write>(
-    rt: &T,
-    alloc: Global,
+    resources: &Resources<'_, T, G>,
     folder: &mut Opener<F>,
-    gate: &G,
+    job: &Job,
     source: &mut Source<R>,
     sink: &mut Sink<W>,
-    job: &Job,
 ) -> Result<Done, Refusal>
     requires files { CanAsk folder.old }
     requires ends { CanCount source.old sink.old }
@@ -95,6 +95,7 @@ fn do_job<T: Threads + Sync, F: Files, G: Gate + Listener + ProofListener, R: Re
         sink.old sink.new result }
 {
     if let Some((filed, path)) = FileJob::of(job) {
+        let Resources { rt, alloc, gate } = *resources;
         let run = FileRun {
             rt,
             alloc,
@@ -104,7 +105,7 @@ fn do_job<T: Threads + Sync, F: Files, G: Gate + Listener + ProofListener, R: Re
         return run.with_file(folder, path, source, sink);
     }
     match LoneJob::of(job) {
-        Some(lone) => lone.run(rt, alloc, gate, source, sink),
+        Some(lone) => lone.run(resources, source, sink),
         None => unreachable!(),
     }
 }
@@ -118,7 +119,7 @@ fn decline_words<W: Write>(
     requires { CanWrite sink.old }
     ensures { DeclinesWords fault sink.old sink.new result }
 {
-    after_showing(decline(alloc, sink, fault, WFCHECK))
+    after_doing(decline(alloc, sink, fault, WFCHECK))
 }
 
 /// The exit status. A note is told, or a refusal. Nothing more can be done if that fails too.

@@ -8,6 +8,7 @@ use Rattle.wf_run.specs.declared.fault.RunFault.{RunFault}
 use Rattle.wf_run.specs.declared.fault.RunFault.TheVariants as run
 use Rattle.wf_run.specs.Run.{failed_reads, failed_writes, by_result}
 use Rattle.wf_run.proofs.Counts.{Told, handed}
+use Rattle.wf_files.specs.declared.files.FileState.{FileState}
 use Rattle.wf_service.specs.declared.refusal.Program.{Program}
 use Rattle.wf_service.specs.declared.refusal.Refusal.{Refusal}
 use Rattle.wf_service.specs.declared.refusal.Refusal.TheVariants as refusal
@@ -24,8 +25,15 @@ of_fault run.Read = (omega arith, omega arith)
 of_fault run.Write = (omega arith, omega arith)
 of_fault e = (omega arith, omega arith)
 
+of_file_fault : (e : RunFault) (file : FileState) → HasStatus (refusal.RunWithFile e file)
+of_file_fault run.OutOfMemory file = (omega arith, omega arith)
+of_file_fault run.Read file = (omega arith, omega arith)
+of_file_fault run.Write file = (omega arith, omega arith)
+of_file_fault e file = (omega arith, omega arith)
+
 pub has_status : (e : Refusal) → HasStatus e
 has_status (refusal.Run e) = of_fault e
+has_status (refusal.RunWithFile e file) = of_file_fault e file
 has_status (refusal.Words mistake) = (omega arith, omega arith)
 has_status (refusal.Clap e negative program) = (omega arith, omega arith)
 

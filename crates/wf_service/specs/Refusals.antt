@@ -5,9 +5,12 @@ use Rattle.wf_io.specs.Texts.{Tells}
 use Rattle.wf_run.specs.declared.fault.RunFault.{RunFault}
 use Rattle.wf_run.specs.declared.fault.RunFault.TheVariants as run
 use Rattle.wf_run.specs.Faults.{fault_text}
+use Rattle.wf_draft.specs.declared.fault.TaskFault.TheVariants as task
+use Rattle.wf_files.specs.declared.files.FileState.{FileState}
+use Rattle.wf_files.specs.declared.files.FileState.TheVariants.{Unopened, Unread, Sound}
 use Rattle.wf_words.specs.Mistakes.{mistake_line}
 use Rattle.wf_service.specs.declared.refusal.Refusal.{Refusal}
-use Rattle.wf_service.specs.declared.refusal.Refusal.TheVariants.{Run, Words, Clap}
+use Rattle.wf_service.specs.declared.refusal.Refusal.TheVariants.{Run, RunWithFile, Words, Clap}
 
 -- the exit status of a refused run
 abbrev pub fault_status : RunFault → ℕ
@@ -18,6 +21,7 @@ fault_status e = 2
 
 abbrev pub refusal_status : Refusal → ℕ
 refusal_status (Run e) = fault_status e
+refusal_status (RunWithFile e file) = fault_status e
 refusal_status (Words mistake) = 2
 refusal_status (Clap e negative program) = 2
 
@@ -25,9 +29,18 @@ refusal_status (Clap e negative program) = 2
 abbrev pub refusal_line : List ℕ → List ℕ
 refusal_line name = codes "wfcheck: " ++ (name ++ 10 ∷ [])
 
+-- which of two texts a refusal is about: the task in a file, or that on standard input
+abbrev pub file_note : RunFault → FileState → List ℕ
+file_note run.Read Unopened = codes "  note: the file that --task names can't be opened\n"
+file_note run.Read Unread = codes "  note: the file that --task names can't be read\n"
+file_note run.Read Sound = codes "  note: standard input can't be read\n"
+file_note (run.Task task.NotJson) file = codes "  note: this is about the file that --task names\n"
+file_note e file = []
+
 -- what is told of a refusal, where it is known
 abbrev pub refusal_text : Refusal → Option (List ℕ)
 refusal_text (Run e) = Some (refusal_line (fault_text e))
+refusal_text (RunWithFile e file) = Some (refusal_line (fault_text e) ++ file_note e file)
 refusal_text (Words mistake) = Some (refusal_line (codes "32 Words") ++ mistake_line mistake)
 refusal_text (Clap e negative program) = None
 
@@ -39,3 +52,8 @@ Refuses errors errors' e status = (status ≡ refusal_status e) × Tells errors 
 abbrev pub as_refusal : {X : Type 0} → Result X RunFault → Result X Refusal
 as_refusal (Ok x) = Ok x
 as_refusal (Err e) = Err (Run e)
+
+-- a run that reads two texts and is refused is a refusal, with how it went with the file
+abbrev pub as_file_refusal : {X : Type 0} → FileState → Result X RunFault → Result X Refusal
+as_file_refusal file (Ok x) = Ok x
+as_file_refusal file (Err e) = Err (RunWithFile e file)

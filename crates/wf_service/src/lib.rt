@@ -14,6 +14,6 @@ mod telling;
 mod version;
 
 pub use laws::declining_is_counted;
-pub use refusal::{Program, Refusal, as_refusal};
+pub use refusal::{Program, Refusal, as_file_refusal};
 pub use telling::{decline, refuse, tell};
 pub use version::VersionLine;

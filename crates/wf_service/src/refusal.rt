@@ -1,10 +1,12 @@
 //! Why a program refuses.
 
 ghost use Rattle.std.specs.Prelude.{◌≡◌};
-ghost use Rattle.wf_service.specs.Refusals.{as_refusal, fault_status, refusal_status, refusal_text};
+ghost use Rattle.wf_service.specs.Refusals.{as_file_refusal, as_refusal, fault_status, refusal_status, refusal_text};
 
 use clap::error::ErrorKind;
 use std::fmt;
+use wf_draft::TaskFault;
+use wf_files::FileState;
 use wf_run::RunFault;
 use wf_words::Mistake;
 
@@ -24,6 +26,14 @@ pub struct Program {
 pub enum Refusal {
     /// A run is refused.
     Run(RunFault),
+    /// A run is refused that reads two texts: the task in a file, and another one on standard
+    /// input.
+    RunWithFile {
+        /// Why it is refused.
+        fault: RunFault,
+        /// How it went with the file.
+        file: FileState,
+    },
     /// 32: the words are read but ask for what the program refuses, or one of them is no text.
     Words(Mistake),
     /// The words are not those of the command line.
@@ -43,6 +53,24 @@ impl fmt::Display for Refusal {
     fn fmt<W: fmt::Write>(&self, f: &mut fmt::Formatter<W>) -> fmt::Result {
         match self {
             Refusal::Run(fault) => writeln!(f, "wfcheck: {fault}"),
+            Refusal::RunWithFile { fault, file } => {
+                writeln!(f, "wfcheck: {fault}")?;
+                match (fault, *file) {
+                    (RunFault::Read, FileState::Unopened) => {
+                        writeln!(f, "  note: the file that --task names can't be opened")
+                    }
+                    (RunFault::Read, FileState::Unread) => {
+                        writeln!(f, "  note: the file that --task names can't be read")
+                    }
+                    (RunFault::Read, FileState::Sound) => {
+                        writeln!(f, "  note: standard input can't be read")
+                    }
+                    (RunFault::Task(TaskFault::NotJson), _) => {
+                        writeln!(f, "  note: this is about the file that --task names")
+                    }
+                    _ => Ok(()),
+                }
+            }
             Refusal::Words(mistake) => writeln!(f, "wfcheck: 32 Words\nerror: {mistake}"),
             Refusal::Clap {
                 error,
@@ -67,18 +95,29 @@ impl Refusal {
     {
         match self {
             Refusal::Run(fault) => status_of(fault),
+            Refusal::RunWithFile { fault, .. } => status_of(fault),
             Refusal::Words(_) | Refusal::Clap { .. } => 2,
         }
     }
 }
 
 /// What a run answers, with its fault as a refusal.
-pub fn as_refusal(found: Result<(), RunFault>) -> Result<(), Refusal>
+pub(crate) fn as_refusal(found: Result<(), RunFault>) -> Result<(), Refusal>
     ensures { result ≡ as_refusal found }
 {
     match found {
         Ok(()) => Ok(()),
         Err(fault) => Err(Refusal::Run(fault)),
+    }
+}
+
+/// What a run answers that reads two texts, with its fault as a refusal.
+pub fn as_file_refusal(found: Result<(), RunFault>, file: FileState) -> Result<(), Refusal>
+    ensures { result ≡ as_file_refusal file found }
+{
+    match found {
+        Ok(()) => Ok(()),
+        Err(fault) => Err(Refusal::RunWithFile { fault, file }),
     }
 }
 
