@@ -12,25 +12,6 @@ use Rattle.wf_clause_store.proofs.TrailLemmas.{has-push, other_test}
 abbrev pub AreNoted : List ℕ → List ℕ → ℕ → Type 0
 AreNoted firsts clause number = (l : ℕ) → has clause l ≡ true → get_or firsts l (suc number) ≤ number
 
-or-second : (a b : Bool) → a ≡ false → (a || b) ≡ true → b ≡ true
-or-second true b none h = absurd (false≢true (sym none))
-or-second false b none h = h
-
--- with the literal at a place noted too
-pub noted-more : (clause old new : List ℕ) (i d number : ℕ) → i < length clause → IsLowered old new → get_or new (get_or clause i d) (suc number) ≤ number
-    → AreNoted old (take i clause) number → AreNoted new (take (i + 1) clause) number
-noted-more clause old new i d number within lowered here before = λ l there.
-    let x = get_or clause i d in
-    let parts : (has (take i clause) l || (x == l)) ≡ true =
-    sym (ap (λ xs. has xs l) (take_at_read clause i d within).1 ∙ has-push (take i clause) x l) ∙ there in
-    elim (cases_Bool (has (take i clause) l)) [
-      | inl early ↦ lowered l number (before l early)
-      | inr late ↦ elim (cases_eq x l) [
-        | inl same ↦ subst (λ (m : ℕ). get_or new m (suc number) ≤ number) same here
-        | inr other ↦ absurd (false≢true (sym (other_test x l other) ∙ or-second (has (take i clause) l) (x == l) late parts))
-      ]
-    ]
-
 pub firsts-lowered : (old new : List ℕ) (clauses : List (List ℕ)) → AreFirsts old clauses → IsLowered old new → AreFirsts new clauses
 firsts-lowered old new clauses h lowered = λ l n there. lowered l n (h l n there)
 
