@@ -3,13 +3,12 @@
 
 What `wfcheck proof --lrat` answers, byte for byte: it shares nothing with the program, and is here to be read. With --branch the proof is
 about that branch alone, which has to be there. A step is a lemma with an id, literals and hints, or a deletion. A lemma follows if its
-hints, looked at one by one with all its literals false, leave one literal each that isn't false, and at last none. The status is 0 if the
-proof is accepted, else 2."""
-import argparse
-import json
-import pathlib
+hints, looked at one by one with all its literals false, leave one literal each that isn't false, and at last none. A lemma that does not
+follow is kept if it is a resolution asymmetric tautology (RAT) on its first literal. Each kept clause with that literal's negation has a
+group of hints then: a negative one that names the clause, and those behind it. The status is 0 if the proof is accepted, else 2."""
 import re
 import sys
+from typing import NamedTuple
 
 import rup
 
@@ -19,6 +18,12 @@ BLANK = re.compile(rb"[ \t\r\n]*")
 NUMBER = re.compile(rb"-?[0-9]+")
 # an id is at most so many times the number of clauses so far, and larger numbers are all alike
 GROWTH, LARGEST = 64, 1 << 60
+
+
+class Group(NamedTuple):
+    """Some hints of a lemma, and the id of the clause that they are about."""
+    name: int
+    hints: list
 
 
 class Ledger:
@@ -37,38 +42,87 @@ class Ledger:
         """Takes a lemma, or raises why it is refused."""
         if not self.last < name <= GROWTH * (self.many + 1):
             raise rup.Refused(f"64 IdOutOfRange {line}")
-        self.follow(line, clause, hints)
+        self.justify(line, clause, hints)
         self.clauses[name], self.last, self.many = clause, name, self.many + 1
         self.is_refuted |= not clause
 
-    def follow(self, line, clause, hints):
-        """Follows the hints of a lemma, and raises why they don't show it."""
+    def justify(self, line, clause, hints):
+        """Raises why the hints of a lemma show neither that it follows nor that it is RAT."""
         false = set(clause)
         if any(-it in false for it in clause):
             return
+        first, *groups = groups_of(hints)
+        if self.leads_to_conflict(line, false, first.hints):
+            return
+        if not clause or not groups:
+            raise rup.Refused(f"62 NoConflict {line}")
+        self.resolve(line, clause[0], false, groups)
+
+    def resolve(self, line, pivot, false, groups):
+        """Goes through the kept clauses with the pivot's negation, each with its group, and raises why one is not settled."""
+        waiting = list(groups)
+        for name, clause in sorted(self.clauses.items()):
+            if -pivot not in clause:
+                continue
+            group = waiting.pop(0) if waiting and waiting[0].name == name else None
+            others = [it for it in clause if it != -pivot]
+            if any(-it in false for it in others):
+                continue
+            if group is None:
+                raise rup.Refused(f"61 ClauseLeftOut {line}")
+            if not self.leads_to_conflict(line, {*false, *others}, group.hints):
+                raise rup.Refused(f"62 NoConflict {line}")
+
+    def leads_to_conflict(self, line, false, hints):
+        """Follows hints while these literals are false, adds what they make false, and says whether a clause is false at last."""
         for hint in hints:
             if hint not in self.clauses:
                 raise rup.Refused(f"63 UnknownHint {line}")
             left = [it for it in self.clauses[hint] if it not in false]
             if not left:
-                return
+                return True
             if len(left) > 1:
-                break
+                raise rup.Refused(f"62 NoConflict {line}")
             false.add(-left[0])
-        raise rup.Refused(f"62 NoConflict {line}")
+        return False
 
     def delete(self, names):
         for name in names:
             self.clauses.pop(name, None)
 
 
-def number_of(word, line, flaw="38 NotALiteral"):
-    """The number that a word is, up to a size from which on all are alike; a negative one has this flaw."""
+def groups_of(hints):
+    """The hints of a lemma as groups: the first up to a negative hint, named 0, and one more for each negative hint and those behind it."""
+    groups = [Group(0, [])]
+    for hint in hints:
+        if hint < 0:
+            groups.append(Group(-hint, []))
+        else:
+            groups[-1].hints.append(hint)
+    return groups
+
+
+def number_of(word, line):
+    """The number that a word is, up to a size from which on all are alike."""
     if not NUMBER.fullmatch(word) or word[:1] == b"-" and not int(word):
         stray(word, line)
-    if word[:1] == b"-":
-        raise rup.Refused(f"{flaw} {line}")
-    return min(int(word), LARGEST)
+    return max(-LARGEST, min(int(word), LARGEST))
+
+
+def id_of(word, line):
+    """The id that a word is, or 0."""
+    number = number_of(word, line)
+    if number < 0:
+        raise rup.Refused(f"38 NotALiteral {line}")
+    return number
+
+
+def literal(word, line, variables):
+    """The literal that a word is, or 0."""
+    number = number_of(word, line)
+    if abs(number) > variables:
+        raise rup.Refused(f"39 NoSuchVariable {line}")
+    return number
 
 
 def stray(word, line):
@@ -116,36 +170,27 @@ def steps(text, variables):
         word = words.next()
         if word[:1] == b"a":
             raise rup.Refused("42 Binary: ask the solver for text by --no-binary")
-        name, clause, names = number_of(word, words.line), [], []
+        name, clause, names = id_of(word, words.line), [], []
         word = words.next()
         if word[:1] == b"d":
             # the letter may stand right before the first id
             words.at -= len(word) - 1
-            while (it := number_of(words.next(), words.line)):
+            while (it := id_of(words.next(), words.line)):
                 names.append(it)
             yield words.line, None, None, names
             continue
         while (it := literal(word, words.line, variables)):
             clause.append(it)
             word = words.next()
-        while (it := number_of(words.next(), words.line, "61 NegativeHint")):
+        while (it := number_of(words.next(), words.line)):
             names.append(it)
         yield words.line, name, clause, names
-
-
-def literal(word, line, variables):
-    """The literal that a word is, or 0."""
-    if not NUMBER.fullmatch(word) or word[:1] == b"-" and not int(word):
-        stray(word, line)
-    if abs(int(word)) > variables:
-        raise rup.Refused(f"39 NoSuchVariable {line}")
-    return int(word)
 
 
 def judge(ledger, variables, text):
     """Why a proof is refused, or None. The ledger is changed."""
     try:
-        ahead = steps(text, variables)
+        ahead = steps(text, rup.most_variables(variables))
         while not ledger.is_refuted:
             line, name, clause, names = next(ahead)
             if clause is None:
@@ -157,18 +202,5 @@ def judge(ledger, variables, text):
     return None
 
 
-def main():
-    script = argparse.ArgumentParser(prog="lrat.py", description=__doc__, formatter_class=argparse.RawDescriptionHelpFormatter)
-    script.add_argument("task", type=pathlib.Path, metavar="TASK")
-    script.add_argument("rounds", type=int, metavar="ROUNDS")
-    script.add_argument("--branch", type=int, metavar="I")
-    asked = script.parse_args()
-    task = json.loads(asked.task.read_bytes())
-    variables, clauses = rup.question(task, asked.rounds, asked.branch)
-    refusal = judge(Ledger(clauses), variables, sys.stdin.buffer.read())
-    sys.stdout.write(f"wfcheck: {refusal}\n" if refusal else rup.accepted(asked.rounds, rup.place(task, asked.rounds, asked.branch)))
-    return 2 if refusal else 0
-
-
 if __name__ == "__main__":
-    sys.exit(main())
+    sys.exit(rup.main("lrat.py", __doc__, lambda clauses, *proof: judge(Ledger(clauses), *proof)))

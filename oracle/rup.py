@@ -137,10 +137,15 @@ def question(task, rounds, branch=None):
     return int(lines[0][2]), [list(map(int, line[:-1])) for line in lines[1:]]
 
 
+def most_variables(variables):
+    """The largest variable of a proof about a question with so many variables."""
+    return min(variables + NEW_VARIABLES, MOST_VARIABLES)
+
+
 def judge(kept, variables, text):
     """Why a proof is refused, or None. What is kept is changed."""
     try:
-        ahead = steps(text, min(variables + NEW_VARIABLES, MOST_VARIABLES))
+        ahead = steps(text, most_variables(variables))
         while not kept.is_refuted:
             line, is_deletion, clause = next(ahead)
             if is_deletion:
@@ -164,18 +169,19 @@ def accepted(rounds, where=""):
     return f"accepted none{where} at {rounds} round{'' if rounds == 1 else 's'}\n"
 
 
-def main():
-    script = argparse.ArgumentParser(prog="rup.py", description=__doc__, formatter_class=argparse.RawDescriptionHelpFormatter)
+def main(name, told, judged):
+    """Runs a script of this name. `judged` says why a proof is refused, by the clauses, the number of variables, and the text."""
+    script = argparse.ArgumentParser(prog=name, description=told, formatter_class=argparse.RawDescriptionHelpFormatter)
     script.add_argument("task", type=pathlib.Path, metavar="TASK")
     script.add_argument("rounds", type=int, metavar="ROUNDS")
     script.add_argument("--branch", type=int, metavar="I")
     asked = script.parse_args()
     task = json.loads(asked.task.read_bytes())
     variables, clauses = question(task, asked.rounds, asked.branch)
-    refusal = judge(Kept(clauses), variables, sys.stdin.buffer.read())
+    refusal = judged(clauses, variables, sys.stdin.buffer.read())
     sys.stdout.write(f"wfcheck: {refusal}\n" if refusal else accepted(asked.rounds, place(task, asked.rounds, asked.branch)))
     return 2 if refusal else 0
 
 
 if __name__ == "__main__":
-    sys.exit(main())
+    sys.exit(main("rup.py", __doc__, lambda clauses, *proof: judge(Kept(clauses), *proof)))
