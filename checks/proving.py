@@ -1,7 +1,7 @@
 """Random proofs about small questions, and what `wfcheck proof` has to say of each: a part of checks/fuzz.
 
-Half of the proofs have hints. Most of their steps are taken: clauses that follow, definitions of new variables and other resolution
-asymmetric tautologies, and deletions; some have a fault. The program has to answer what oracle/rup.py or oracle/lrat.py does, with the
+Half of the proofs have hints. Most of their steps are taken: clauses that follow, definitions of new variables, blocked clauses and other
+resolution asymmetric tautologies, and deletions; some have a fault. The program has to answer what oracle/rup.py or oracle/lrat.py does, with the
 very line of a refusal. No proof may be accepted of a question that has a model, whatever that oracle says: models are looked for here."""
 import json
 import pathlib
@@ -13,8 +13,9 @@ import finder
 import lrat
 import rup
 
-# how often a step is made anew that would be refused, how often it is left so, and how often bytes of a proof are changed
-TRIES, FAULTY, OTHER_BYTES = 12, 0.06, 0.15
+# how often a step is made anew that would be refused, how often one is left so, how often groups of hints are damaged, and how often bytes
+# of a proof are changed
+TRIES, FAULTY, GROUPS_FAULTY, OTHER_BYTES = 12, 0.06, 0.12, 0.15
 BYTES = [*(b"%d" % it for it in range(10)), b"-", b" ", b"\n", b"\r", b"\t", b" 0", b"d", b"d ", b"c", b"%", b"a", b"x", b"+", b"\0", b"\x7f", b"\xff", b"\x0b"]
 
 
@@ -76,6 +77,14 @@ def definition(choose, variables):
     return found
 
 
+def parted(choose, variables, clauses):
+    """Clauses that part some of these by the next variable: a part of each with its negation, and the rest of all with the variable."""
+    whole = [choose.sample(it, len(it)) for it in choose.sample(clauses, min(len(clauses), choose.choice([1, 1, 2, 3])))]
+    cuts = [choose.randint(0, len(it)) for it in whole]
+    rest = {it: None for each, cut in zip(whole, cuts) for it in each[cut:]}
+    return [*([-variables - 1, *each[:cut]] for each, cut in zip(whole, cuts)), [variables + 1, *rest]]
+
+
 def plain_steps(choose, variables, clauses):
     """The lines of a proof without hints, which ends in the contradiction at most times."""
     kept, there, lines = rup.Kept(clauses), [*clauses], []
@@ -107,28 +116,75 @@ def plain_steps(choose, variables, clauses):
     return lines + [b"0"] * (choose.random() < 0.9)
 
 
-def hints_of(ledger, lemma):
-    """Hints that lead to a conflict from the negation of a lemma, or as many as tell something."""
-    false, hints, found = set(lemma), [], True
+def forced(ledger, false):
+    """Hints that lead to a conflict while these literals are false, or as many as tell something, and whether there is a conflict."""
+    false, hints, found = set(false), [], True
     while found:
         found = False
         for at, each in ledger.clauses.items():
             left = [it for it in each if it not in false]
             if not left:
-                return [*hints, at]
+                return [*hints, at], True
             if len(left) == 1 and -left[0] not in false:
                 false.add(-left[0])
                 hints.append(at)
                 found = True
-    return hints
+    return hints, False
+
+
+def false_after(ledger, false, hints):
+    """The literals that are false once these hints were followed."""
+    false = set(false)
+    ledger.leads_to_conflict(0, false, hints)
+    return false
+
+
+def hints_of(choose, ledger, lemma):
+    """Hints that show a lemma, if there are some: those of the lemma itself, or behind them a group for each clause of a RAT step."""
+    hints, follows = forced(ledger, lemma)
+    if not lemma or follows and choose.random() < 0.6:
+        return hints
+    hints = hints[:choose.choice([0, 0, 1, len(hints) - follows])]
+    false, found = false_after(ledger, lemma, hints), []
+    for at, each in ledger.clauses.items():
+        others = [it for it in each if it != -lemma[0]]
+        if -lemma[0] in each and not any(-it in false for it in others):
+            found += [-at, *forced(ledger, {*false, *others})[0]]
+        elif -lemma[0] in each and choose.random() < 0.3:
+            found += [-at, *choose.choice([[], [], [at]])]
+    stray = [] if found and choose.random() < 0.8 else [-choose.randint(1, ledger.last + 1)]
+    return [*hints, *found, *stray]
+
+
+def blocked(choose, clauses):
+    """A clause that may be blocked on its first literal: for each clause with that literal's negation it has another one's, or for all but one."""
+    pivot = choose.choice(choose.choice([it for it in clauses if it]))
+    others = [[it for it in each if it != -pivot] for each in clauses if -pivot in each]
+    found = sorted({-choose.choice(it) for it in others if it})
+    choose.shuffle(found)
+    return [pivot, *found[choose.choice([0, 1, 1]):]]
 
 
 def with_a_fault(choose, hints, last):
-    """Hints of which one is left out, put in, or turned."""
-    hints = [*hints]
-    at = choose.randrange(len(hints) + 1)
-    hints[at:at + choose.randrange(2)] = choose.choice([[], [choose.randint(1, last + 1)], [-choose.randint(1, last)]])
-    return hints
+    """Hints of which one is left out, put in, or turned; or of a lemma with groups, one group is gone, exchanged, or about another clause."""
+    starts = [0, *(at for at, it in enumerate(hints) if it < 0), len(hints)]
+    groups = [hints[at:end] for at, end in zip(starts, starts[1:])]
+    how, at = choose.randrange(5), choose.randrange(len(groups))
+    if len(groups) > 1 and how == 0:
+        del groups[at]
+    elif len(groups) > 1 and how == 1:
+        to = choose.randrange(len(groups))
+        groups[at], groups[to] = groups[to], groups[at]
+    elif len(groups) > 1 and how == 2:
+        groups[-1] = [-choose.randint(1, last), *groups[-1][1:]]
+    elif len(groups) > 1 and how == 3:
+        groups[at], groups[at - 1] = groups[at][:1], groups[at - 1] + groups[at][1:]
+    else:
+        hints = [*hints]
+        at = choose.randrange(len(hints) + 1)
+        hints[at:at + choose.randrange(2)] = choose.choice([[], [choose.randint(1, last + 1)], [-choose.randint(1, last)]])
+        return hints
+    return [it for each in groups for it in each]
 
 
 def hinted_steps(choose, variables, clauses):
@@ -136,11 +192,12 @@ def hinted_steps(choose, variables, clauses):
     ledger, lines = lrat.Ledger(clauses), []
 
     def add(lemma):
-        """Adds a lemma, if it follows, or to be a fault."""
-        name, hints = ledger.last + choose.choice([1, 1, 1, 2, 7]), hints_of(ledger, lemma)
-        hints = with_a_fault(choose, hints, ledger.last) if choose.random() < FAULTY else hints
+        """Adds a lemma, if it is one that is taken, or to be a fault."""
+        name, hints = ledger.last + choose.choice([1, 1, 1, 2, 7]), hints_of(choose, ledger, lemma)
         try:
             ledger.copy().learn(0, name, lemma, hints)
+            if choose.random() < (GROUPS_FAULTY if any(it < 0 for it in hints) else FAULTY):
+                hints = with_a_fault(choose, hints, ledger.last)
         except rup.Refused:
             if choose.random() >= FAULTY:
                 return False
@@ -149,16 +206,22 @@ def hinted_steps(choose, variables, clauses):
         return True
 
     for _ in range(choose.randint(1, 10)):
-        if choose.randrange(6) == 0 and ledger.clauses:
+        how = choose.randrange(8)
+        if how == 0 and ledger.clauses:
             gone = [choose.choice([*ledger.clauses, ledger.last + 1]) for _ in range(choose.randint(0, 2))]
             lines.append(b"%d d %s" % (ledger.last, words(gone)))
             ledger.delete(gone)
-        elif ledger.clauses:
+        elif how < 3:
+            for lemma in definition(choose, variables) if choose.randrange(2) else parted(choose, variables, [*ledger.clauses.values()]):
+                add(lemma)
+            variables += 1
+        elif any(ledger.clauses.values()):
             for _ in range(TRIES):
-                if add(clause(choose, variables, [*ledger.clauses.values()])):
+                there = [*ledger.clauses.values()]
+                if add(blocked(choose, there) if how < 5 else clause(choose, variables, there)):
                     break
     if choose.random() < 0.9:
-        lines.append(b"%d 0 %s" % (ledger.last + 1, words(hints_of(ledger, []))))
+        lines.append(b"%d 0 %s" % (ledger.last + 1, words(forced(ledger, [])[0])))
     return lines
 
 
