@@ -152,7 +152,7 @@ def hints_of(choose, ledger, lemma):
             found += [-at, *forced(ledger, {*false, *others})[0]]
         elif -lemma[0] in each and choose.random() < 0.3:
             found += [-at, *choose.choice([[], [], [at]])]
-    stray = [] if found and choose.random() < 0.8 else [-choose.randint(1, ledger.last + 1)]
+    stray = [] if choose.random() < 0.8 else [-choose.randint(1, ledger.last + 1)]
     return [*hints, *found, *stray]
 
 

@@ -5,7 +5,7 @@ What `wfcheck proof --lrat` answers, byte for byte: it shares nothing with the p
 about that branch alone, which has to be there. A step is a lemma with an id, literals and hints, or a deletion. A lemma follows if its
 hints, looked at one by one with all its literals false, leave one literal each that isn't false, and at last none. A lemma that does not
 follow is kept if it is a resolution asymmetric tautology (RAT) on its first literal. Each kept clause with that literal's negation has a
-group of hints then: a negative one that names the clause, and those behind it. The status is 0 if the proof is accepted, else 2."""
+group of hints then, unless it is true: a negative one that names the clause, and those behind it. The status is 0 if the proof is accepted, else 2."""
 import re
 import sys
 from typing import NamedTuple
@@ -54,7 +54,7 @@ class Ledger:
         first, *groups = groups_of(hints)
         if self.leads_to_conflict(line, false, first.hints):
             return
-        if not clause or not groups:
+        if not clause:
             raise rup.Refused(f"62 NoConflict {line}")
         self.resolve(line, clause[0], false, groups)
 
@@ -69,7 +69,7 @@ class Ledger:
             if any(-it in false for it in others):
                 continue
             if group is None:
-                raise rup.Refused(f"61 ClauseLeftOut {line}")
+                raise rup.Refused(f"61 ClauseLeftOut {line}" if groups else f"62 NoConflict {line}")
             if not self.leads_to_conflict(line, {*false, *others}, group.hints):
                 raise rup.Refused(f"62 NoConflict {line}")
 
