@@ -14,7 +14,7 @@ demo:
 build:
 	@checks/build
 
-# The checker alone, at bin/wfverify: what it stands on is proved first, less than half of what bin/wfcheck stands on.
+# The checker alone, at bin/wfverify: what it stands on is proved first, about half of what bin/wfcheck stands on.
 verifier:
 	@checks/build wfverify
 

@@ -3,8 +3,8 @@
 //!
 //! [`run_program`] has one condition, that all three ends and the folder can count what a run asks
 //! of them, and one relation (`specs/Program.antt`): the words were judged, what they ask for was
-//! done, no file was opened but the one that they name, and no more was told than a refusal, or the
-//! account of a search where the words ask for it.
+//! done, no file was opened but the one that they name, and no more was told than a refusal, or a
+//! note: the account of a search if the words ask for it, or how a search for an obstruction ended.
 //!
 //! Beside it stands [`run_executions`]: a task's text in, and its executions in words out.
 #![tactic(auto)]
