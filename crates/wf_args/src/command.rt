@@ -19,7 +19,7 @@ const KINDS: &str =
 
 /// What the help of `proof` says of the texts.
 const PROOFS: &str =
-    "The proof is DRAT as text, as CaDiCaL and Kissat write it with --no-binary: lemmas and deletions. Each lemma has to\nfollow by unit propagation from the formula and the lemmas before it, or be RAT on its first literal, and the\ncontradiction has to follow at last. Then the task has no decision map after these rounds, whatever the solver did,\nand the answer is: accepted none at R rounds. A proof is refused if a lemma is neither, or if it ends too soon.\nWith --lrat the proof is LRAT as text: the hints of each lemma have to lead to a conflict.\nExample: wfcheck proof --task gallery/tasks/loop-hollow.json --rounds 2 < gallery/answers/loop-hollow-2.drat";
+    "The proof is DRAT as text, as CaDiCaL and Kissat write it with --no-binary: lemmas and deletions. Each lemma has to\nfollow by unit propagation from the formula and the lemmas before it, or be RAT on its first literal, and the\ncontradiction has to follow at last. Then the task has no decision map after these rounds, whatever the solver did,\nand the answer is: accepted none at R rounds. A proof is refused if a lemma is neither, or if it ends too soon.\nWith --lrat the proof is LRAT as text: the hints of each lemma have to show that it follows or is RAT.\nExample: wfcheck proof --task gallery/tasks/loop-hollow.json --rounds 2 < gallery/answers/loop-hollow-2.drat";
 
 /// What the help of `obstruction` says of the answers.
 const OBSTRUCTIONS: &str =

@@ -3,13 +3,11 @@ use Rattle.std.specs.Prelude.{◌≡◌, ◌<◌, ◌^◌, ℕ, List, length, Op
 use Rattle.wf_model.specs.Task.{Task}
 use Rattle.wf_model.specs.Report.{Report, lines_of, report_of}
 use Rattle.wf_io.specs.Seen.{Reading, Writing}
-use Rattle.wf_io.specs.Texts.{ReadsText}
-use Rattle.wf_io.specs.declared.source.ReadFault.{ReadFault}
 use Rattle.wf_report.specs.declared.fault.CertFault.TheVariants as amiss
-use Rattle.wf_run.specs.Run.{IsTaskOf, Judged, Next, Ran, Reads}
+use Rattle.wf_run.specs.Run.{Ran}
 use Rattle.wf_run.specs.declared.fault.RunFault.{RunFault}
 use Rattle.wf_run.specs.declared.fault.RunFault.TheVariants.{Cert, OutOfMemory, TooLong}
-use Rattle.wf_verify_engine.specs.Verify.{IsAccepted, IsVerifiedFor}
+use Rattle.wf_verify_engine.specs.Verify.{ChecksBoth, ChecksReport, IsAccepted, ReadsUpTo, ReportReading}
 use Rattle.wf_verify_engine.specs.declared.outcome.Accepted.{Accepted}
 
 -- a report that is checked while it is read has at most so many bytes, and so many lines
@@ -27,25 +25,16 @@ IsLongReportOf text (Err TooLong) = most_report_lines < length (lines_of text)
 IsLongReportOf text (Err OutOfMemory) = Unit {0}
 IsLongReportOf text (Err e) = ⊥
 
--- the report of the source's text
-abbrev pub ReadsLong : Reading → Reading → Result Report RunFault → Type 0
-ReadsLong old new result =
-    (text : Result (List ℕ) ReadFault) × ReadsText most_report_bytes old new text × Judged IsLongReportOf text result
+-- the report of a source's text
+abbrev pub ReadsLong : ReportReading
+ReadsLong = ReadsUpTo most_report_bytes IsLongReportOf
 
--- the report of the source's text is checked about a task, and for the
--- rounds that are asked for, if any are
+-- such a report is checked as one that is read as a whole
 abbrev pub ChecksLongFor : Option ℕ → Task → Reading → Reading → Result (Accepted × List ℕ) RunFault → Type 0
-ChecksLongFor rounds t reports reports' result =
-    (r : Result Report RunFault) × ReadsLong reports reports' r × Next (IsVerifiedFor rounds (IsAccepted rounds) t) r result
-
--- the report is read where there is a task, and is else left alone
-abbrev pub ChecksLongWith : Option ℕ → Reading → Reading → Result Task RunFault → Result (Accepted × List ℕ) RunFault → Type 0
-ChecksLongWith rounds reports reports' (Ok t) result = ChecksLongFor rounds t reports reports' result
-ChecksLongWith rounds reports reports' (Err e) result = (result ≡ Err e) × (reports' ≡ reports)
+ChecksLongFor rounds t reports reports' result = ChecksReport ReadsLong rounds (IsAccepted rounds) t reports reports' result
 
 abbrev pub ChecksLong : Option ℕ → Reading → Reading → Reading → Reading → Result (Accepted × List ℕ) RunFault → Type 0
-ChecksLong rounds task task' reports reports' result =
-    (t : Result Task RunFault) × Reads IsTaskOf task task' t × ChecksLongWith rounds reports reports' t result
+ChecksLong rounds task task' reports reports' result = ChecksBoth ReadsLong rounds (IsAccepted rounds) task task' reports reports' result
 
 -- The report of a source was checked against the task of another one, and what is accepted was
 -- written. Where rounds are asked for, the report has to be for these.

@@ -6,13 +6,15 @@ use Rattle.wf_model.specs.Report.{Report, Body, a_map, none, least, body_values,
 use Rattle.wf_model.specs.Check.{report_fault}
 use Rattle.wf_model.specs.PointsText.{points_text}
 use Rattle.wf_io.specs.Seen.{Reading, Writing}
+use Rattle.wf_io.specs.Texts.{ReadsText}
+use Rattle.wf_io.specs.declared.source.ReadFault.{ReadFault}
 use Rattle.wf_complex.specs.Protocol.{Built, IsProtocol}
 use Rattle.wf_report.specs.declared.report.Report as code
 use Rattle.wf_report.specs.Reports.{report_seen}
 use Rattle.wf_check.specs.Faults.{Fails}
 use Rattle.wf_check.specs.Truth.{HoldsOf}
 use Rattle.wf_report.specs.declared.fault.CertFault.TheVariants as amiss
-use Rattle.wf_run.specs.Run.{Next, Ran, Reads, IsTaskOf, HasComplex, IsBeyondLimits}
+use Rattle.wf_run.specs.Run.{Judged, Next, Ran, Reads, IsTaskOf, HasComplex, IsBeyondLimits}
 use Rattle.wf_verify_engine.specs.declared.outcome.Accepted.{Accepted}
 use Rattle.wf_verify_engine.specs.declared.outcome.Accepted.TheVariants.{Map, Nothing, Least}
 use Rattle.wf_run.specs.declared.fault.RunFault.{RunFault}
@@ -90,15 +92,37 @@ IsVerifiedFor (Some rounds) is_text t r result =
 abbrev pub ChecksText : Option ℕ → Task → List ℕ → Result (Accepted × List ℕ) RunFault → Type 0
 ChecksText rounds t text result = (r : Result Report RunFault) × IsReportOf text r × Next (IsVerifiedFor rounds (IsAccepted rounds) t) r result
 
+-- how a report is read from a source
+abbrev pub ReportReading : Type 1
+ReportReading = Reading → Reading → Result Report RunFault → Type 0
+
+-- the source's text has at most so many bytes, and IsReport says which report it is
+abbrev pub ReadsUpTo : ℕ → (List ℕ → Result Report RunFault → Type 0) → ReportReading
+ReadsUpTo most IsReport old new result =
+    (text : Result (List ℕ) ReadFault) × ReadsText most old new text × Judged IsReport text result
+
+-- a report is read in this way, and checked about the task, and for the rounds that are asked for,
+-- if any are; is_text says which answer and text it has then
+abbrev pub ChecksReport : {X : Type 0} → ReportReading → Option ℕ → (Task → Report → X → List ℕ → Type 0) → Task → Reading → Reading → Result (X × List ℕ) RunFault → Type 0
+ChecksReport ReadsReport rounds is_text t reports reports' result =
+    (r : Result Report RunFault) × ReadsReport reports reports' r × Next (IsVerifiedFor rounds is_text t) r result
+
 -- the report is read where there is a task, and is else left alone
+abbrev pub ChecksAfter : {X : Type 0} → ReportReading → Option ℕ → (Task → Report → X → List ℕ → Type 0) → Reading → Reading → Result Task RunFault → Result (X × List ℕ) RunFault → Type 0
+ChecksAfter ReadsReport rounds is_text reports reports' (Ok t) result = ChecksReport ReadsReport rounds is_text t reports reports' result
+ChecksAfter ReadsReport rounds is_text reports reports' (Err e) result = (result ≡ Err e) × (reports' ≡ reports)
+
+-- the task is read, and then the report
+abbrev pub ChecksBoth : {X : Type 0} → ReportReading → Option ℕ → (Task → Report → X → List ℕ → Type 0) → Reading → Reading → Reading → Reading → Result (X × List ℕ) RunFault → Type 0
+ChecksBoth ReadsReport rounds is_text task task' reports reports' result =
+    (t : Result Task RunFault) × Reads IsTaskOf task task' t × ChecksAfter ReadsReport rounds is_text reports reports' t result
+
+-- the same, if the report is read as a whole
 abbrev pub ChecksFor : {X : Type 0} → Option ℕ → (Task → Report → X → List ℕ → Type 0) → Reading → Reading → Result Task RunFault → Result (X × List ℕ) RunFault → Type 0
-ChecksFor rounds is_text reports reports' (Ok t) result =
-    (r : Result Report RunFault) × Reads IsReportOf reports reports' r × Next (IsVerifiedFor rounds is_text t) r result
-ChecksFor rounds is_text reports reports' (Err e) result = (result ≡ Err e) × (reports' ≡ reports)
+ChecksFor rounds is_text reports reports' t result = ChecksAfter (ReadsUpTo most_bytes IsReportOf) rounds is_text reports reports' t result
 
 abbrev pub Checks : {X : Type 0} → Option ℕ → (Task → Report → X → List ℕ → Type 0) → Reading → Reading → Reading → Reading → Result (X × List ℕ) RunFault → Type 0
-Checks rounds is_text task task' reports reports' result =
-    (t : Result Task RunFault) × Reads IsTaskOf task task' t × ChecksFor rounds is_text reports reports' t result
+Checks rounds is_text task task' reports reports' result = ChecksBoth (ReadsUpTo most_bytes IsReportOf) rounds is_text task task' reports reports' result
 
 -- The report of a source was checked against the task of another one, and what is accepted was
 -- written. Where rounds are asked for, the report has to be for these.
