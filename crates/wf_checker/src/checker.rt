@@ -20,7 +20,7 @@ use wf_words::WordsFault;
 
 /// What a check is done with: threads and memory.
 #[derive(Clone, Copy)]
-struct Resources<'a, T> {
+struct CheckResources<'a, T> {
     rt: &'a T,
     alloc: Global,
 }
@@ -52,7 +52,7 @@ pub fn run_checker<T: Threads + Sync, F: Files, R: Read, W: Write, E: Write>(
     ensures { ServesCheck (F.opens folder.old.files) words folder.old folder.new source.old
         source.new sink.old sink.new errors.old errors.new result }
 {
-    let resources = Resources { rt, alloc };
+    let resources = CheckResources { rt, alloc };
     let done = match job_of(alloc, words) {
         Ok(job) => do_job(&resources, folder, &job, source, sink),
         Err(fault) => decline_words(alloc, sink, fault),
@@ -69,7 +69,7 @@ fn job_of(alloc: Global, words: Result<Vec<String>, WordsFault>) -> Result<Check
 
 /// Checks what a source gives, as a job asks for it.
 fn do_job<T: Threads + Sync, F: Files, R: Read, W: Write>(
-    resources: &Resources<'_, T>,
+    resources: &CheckResources<'_, T>,
     folder: &mut Opener<F>,
     job: &CheckJob,
     source: &mut Source<R>,
@@ -80,7 +80,7 @@ fn do_job<T: Threads + Sync, F: Files, R: Read, W: Write>(
     ensures { DoesJob (F.opens folder.old.files) job.now folder.old folder.new source.old source.new
         sink.old sink.new result }
 {
-    let Resources { rt, alloc } = *resources;
+    let CheckResources { rt, alloc } = *resources;
     let run = CheckRun {
         rt,
         alloc,

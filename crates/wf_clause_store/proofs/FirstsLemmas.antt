@@ -1,12 +1,10 @@
 -- Laws of the numbers that no clause with a literal is below.
 use Rattle.std.proofs.Common.{◌≡◌, ℕ, ◌+◌, ◌<◌, ◌≤◌, suc, Bool, true, false, List, [], ◌∷◌, ◌++◌, sym, ◌∙◌, ap, subst, arith, length, length-set, get_or, set, take, inl, inr, get_or-set_other, get_or-set_same}
 use Rattle.std.specs.Prelude.{◌==◌, ◌||◌, if◌then◌else◌}
-use Rattle.std.proofs.lemmas.Bool.{cases_Bool, cases_eq, cases_lt, false≢true}
+use Rattle.std.proofs.lemmas.Bool.{cases_eq, cases_lt, false≢true}
 use Rattle.std.proofs.lemmas.List.{get_or_append_left, get_or_past, get_or_push, length_push}
-use Rattle.std.proofs.lemmas.Grind.{take_at_read}
 use Rattle.wf_clause_store.specs.Firsts.{AreFirsts, IsLowered}
 use Rattle.wf_clause_store.specs.Literals.{has}
-use Rattle.wf_clause_store.proofs.TrailLemmas.{has-push, other_test}
 
 -- each literal of the clause has a number up to this one
 abbrev pub AreNoted : List ℕ → List ℕ → ℕ → Type 0

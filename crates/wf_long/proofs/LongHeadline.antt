@@ -1,5 +1,5 @@
 -- What a check accepts of a report of any length is true.
-use Rattle.std.proofs.Common.{List, subst}
+use Rattle.std.proofs.Common.{subst}
 use Rattle.wf_io.specs.Texts.{Wrote}
 use Rattle.wf_verify_engine.specs.Verify.{IsAccepted}
 use Rattle.wf_verify_engine.proofs.Headline.{of_check}
