@@ -4,6 +4,7 @@ be the text of an obstruction.
 
 It is written from the definitions in crates/wf_argument/specs, crates/wf_argument_words/specs and crates/wf_obstruction_words/specs,
 and shares no code with the program. It takes the report as it is: `second_opinion.py` says whether it holds."""
+import collections
 import itertools
 import sys
 
@@ -13,6 +14,7 @@ from second_opinion import faces, given, judge, point_of, seen_after, simplex_of
 DEEPEST, MOST_TOLD = 12, 8
 LEAST_RANGE, MOST_ITEMS, MOST_LEFT = 5, 8, 4
 OBSTRUCTION, MOST_TUPLES = "wfcheck obstruction 1\n", 24
+PROCESSES = {1: "one process", 2: "two processes", 3: "three processes", 4: "four processes"}
 
 
 def listed(texts, between, last):
@@ -172,6 +174,16 @@ def parts_of(steps):
         yield (*key, [numbers[3] for _, numbers in group]) if group[0][1][0] == "p" else group[0][1]
 
 
+def summary_text(simplices, steps, symmetric):
+    """The steps, and the input simplices of the executions of which lines speak: how many there are by size, and who is in them."""
+    sizes, text = collections.Counter(map(len, simplices)), f"In all: {counted(steps, 'step')} over {counted(len(simplices), 'execution')}"
+    if not simplices:
+        return text + "."
+    names = [f"p{process}" for process in sorted({process for simplex in simplices for process, _ in simplex})]
+    whose = f"at most {PROCESSES[max(sizes)]}" if symmetric else listed(names, ", ", " and ")
+    return f"{text} of {whose}: {', '.join(f'{sizes[size]} of {PROCESSES[size]}' for size in sorted(sizes))}."
+
+
 def text_of(task, report):
     report = read(report)
     header, steps = report.header, report.steps
@@ -189,6 +201,7 @@ def text_of(task, report):
     over = f"{len(used)} of {counted(len(made.executions), 'execution')}"
     title = f"No decision map after {counted(header['rounds'], 'round')}: {counted(argument.step - 1, 'step')} over {over}."
     lines = [title, "", "Points", *(f"  v{v} is {view_text(views[v], mark)}" for v in sorted(points)), "Argument", *argument.lines]
+    lines.append(summary_text([made.executions[e][0] for e in used], argument.step - 1, task["symmetric"]))
     return "".join(line + "\n" for line in lines)
 
 

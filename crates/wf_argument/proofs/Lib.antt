@@ -4,6 +4,7 @@ mod Places
 pub mod GoneTuples
 mod PartSteps
 mod ReasonsInWords
+mod Summaries
 mod TakenValues
 mod Trails
 mod Usage

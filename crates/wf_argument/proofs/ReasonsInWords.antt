@@ -1,5 +1,5 @@
 -- Reasons in words: those that are told together, and those that are to come.
-use Rattle.std.proofs.Common.{◌≡◌, ℕ, zero, suc, ◌+◌, ◌<◌, ◌≤◌, ◌==◌, ◌&&◌, List, [], ◌∷◌, ◌++◌, length, drop, get_or, Bool, true, false, cond, Option, Some, append_assoc, refl, sym, ap, ◌∙◌, arith}
+use Rattle.std.proofs.Common.{◌≡◌, ℕ, zero, suc, ◌<◌, ◌≤◌, ◌==◌, ◌&&◌, List, [], ◌∷◌, ◌++◌, length, drop, get_or, Bool, true, false, cond, Option, Some, append_assoc, refl, sym, ap, ◌∙◌, arith}
 use Rattle.wf_argument_words.specs.Text.{values_text}
 use Rattle.wf_argument.specs.Text.{lead_text, origin_text, reasons_from, same_origin, values_beside}
 use Rattle.wf_argument.specs.declared.reasons.Reason.{Reason}

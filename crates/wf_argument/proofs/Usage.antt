@@ -18,9 +18,10 @@ use Rattle.wf_model.proofs.Basics.{or_none}
 use Rattle.wf_lines.specs.Lines.{line_of}
 use Rattle.wf_lines.specs.declared.line.Line.{Line}
 use Rattle.wf_argument.specs.Parts.{parts_of}
-use Rattle.wf_argument.specs.Text.{argument_text, is_in, names, parts_text, point_text, steps_made, title_text, used_count, used_points}
-use Rattle.wf_argument.specs.Used.{MarksEach, is_named, marked_text, points_at, title_of, told_if}
+use Rattle.wf_argument.specs.Text.{argument_text, is_in, names, parts_text, point_text, steps_made, summary_of, summary_text, title_text, used_count, used_points}
+use Rattle.wf_argument.specs.Used.{MarksEach, is_named, marked_scopes, marked_text, points_at, title_of, told_if}
 use Rattle.wf_complex.proofs.Lemmas.{and_more}
+use Rattle.wf_argument.proofs.Summaries.{scopes_are_used}
 
 -- one element more
 count_more : {X : Type 0} (p : X → Bool) (x : X) (xs : List X) → count_by p (x ∷ xs) ≡ cond (p x) 1 0 + count_by p xs
@@ -124,12 +125,21 @@ pub record IsUsed (t : Task) (b : Built) (ls : List refutation.Line) (executions
   pub executions_are : MarksEach (length b.scopes) executions (λ e. list_any (is_in e) ls)
   pub points_are : MarksEach (length b.points) points (λ v. list_any (is_named b.scopes v) ls)
 
-title_is : (t : Task) (b : Built) (ls : List refutation.Line) (marks points : List Bool) (steps used count : ℕ) → IsProtocol t b.rounds b → IsUsed t b ls marks points steps used count → title_of b.rounds steps used count ≡ title_text (problem_of t b.rounds) b.rounds ls
-title_is t b ls marks points steps used count built h =
+used_is : (t : Task) (b : Built) (ls : List refutation.Line) (marks points : List Bool) (steps used count : ℕ) → IsProtocol t b.rounds b → IsUsed t b ls marks points steps used count → used ≡ used_count (problem_of t b.rounds) ls
+used_is t b ls marks points steps used count built h =
     let p = problem_of t b.rounds in
     let many : length b.scopes ≡ length p.constraints = ap length built.scopes_are ∙ length-map p.constraints (λ k. k.scope) in
-    let used_is : used ≡ used_count p ls = h.used_are ∙ counted_marks marks (length b.scopes) (λ e. list_any (is_in e) ls) h.executions_are ∙ ap (λ n. count_by (λ e. list_any (is_in e) ls) (below n)) many in
-    λ i. title_of b.rounds (h.steps_are i) (used_is i) ((h.count_is ∙ many) i)
+    h.used_are ∙ counted_marks marks (length b.scopes) (λ e. list_any (is_in e) ls) h.executions_are ∙ ap (λ n. count_by (λ e. list_any (is_in e) ls) (below n)) many
+
+title_is : (t : Task) (b : Built) (ls : List refutation.Line) (marks points : List Bool) (steps used count : ℕ) → IsProtocol t b.rounds b → IsUsed t b ls marks points steps used count → title_of b.rounds steps used count ≡ title_text (problem_of t b.rounds) b.rounds ls
+title_is t b ls marks points steps used count built h =
+    let many : length b.scopes ≡ length (problem_of t b.rounds).constraints = ap length built.scopes_are ∙ length-map (problem_of t b.rounds).constraints (λ k. k.scope) in
+    λ i. title_of b.rounds (h.steps_are i) (used_is t b ls marks points steps used count built h i) ((h.count_is ∙ many) i)
+
+summary_is : (t : Task) (b : Built) (ls : List refutation.Line) (marks points : List Bool) (steps used count : ℕ) → IsProtocol t b.rounds b → IsUsed t b ls marks points steps used count
+    → summary_of t.symmetric steps used (marked_scopes marks b.scopes) ≡ summary_text t.symmetric (problem_of t b.rounds) ls
+summary_is t b ls marks points steps used count built h =
+    λ i. summary_of t.symmetric (h.steps_are i) (used_is t b ls marks points steps used count built h i) (scopes_are_used (problem_of t b.rounds) b.scopes marks ls built.scopes_are h.executions_are i)
 
 points_told : (t : Task) (b : Built) (ls : List refutation.Line) (marks points : List Bool) (steps used count : ℕ) → IsProtocol t b.rounds b → IsUsed t b ls marks points steps used count
     → marked_text t.symmetric points 0 b.points ≡ flat_map (point_text t.symmetric) (used_points (problem_of t b.rounds) ls (view_points t b.rounds))
@@ -137,15 +147,20 @@ points_told t b ls marks points steps used count built h =
     marked_named t.symmetric (problem_of t b.rounds) b.scopes points b.points ls built.scopes_are h.points_are
     ∙ ap (λ views. flat_map (point_text t.symmetric) (used_points (problem_of t b.rounds) ls views)) built.points_are
 
--- the title, the points and then the parts
-pub whole : (t : Task) (b : Built) (ls : List refutation.Line) (marks points : List Bool) (steps used count : ℕ) (parts t0 t1 t2 t3 t4 t5 text : List ℕ) → IsProtocol t b.rounds b → IsUsed t b ls marks points steps used count
+-- the title, the points, the parts and the summary
+pub whole : (t : Task) (b : Built) (ls : List refutation.Line) (marks points : List Bool) (steps used count : ℕ) (parts t0 t1 t2 t3 t4 t5 t6 text : List ℕ) → IsProtocol t b.rounds b → IsUsed t b ls marks points steps used count
     → t0 ≡ [] → t1 ≡ t0 ++ title_of b.rounds steps used count → t2 ≡ t1 ++ codes "Points\n" → t3 ≡ t2 ++ marked_text t.symmetric points 0 b.points → t4 ≡ t3 ++ codes "Argument\n"
-    → parts ≡ [] ++ parts_text (problem_of t b.rounds) (named_executions t b.rounds) (Some (start (problem_of t b.rounds))) (parts_of ls) → t5 ≡ t4 ++ parts → text ≡ t5 → text ≡ argument_text t b.rounds ls
-whole t b ls marks points steps used count parts t0 t1 t2 t3 t4 t5 text built h none first second third fourth told fifth is =
+    → parts ≡ [] ++ parts_text (problem_of t b.rounds) (named_executions t b.rounds) (Some (start (problem_of t b.rounds))) (parts_of ls) → t5 ≡ t4 ++ parts
+    → t6 ≡ t5 ++ summary_of t.symmetric steps used (marked_scopes marks b.scopes) → text ≡ t6 → text ≡ argument_text t b.rounds ls
+whole t b ls marks points steps used count parts t0 t1 t2 t3 t4 t5 t6 text built h none first second third fourth told fifth sixth is =
     let title = title_of b.rounds steps used count in
     let points_text = marked_text t.symmetric points 0 b.points in
     let rest = parts_text (problem_of t b.rounds) (named_executions t b.rounds) (Some (start (problem_of t b.rounds))) (parts_of ls) in
+    let summary = summary_of t.symmetric steps used (marked_scopes marks b.scopes) in
     is
-    ∙ and_more t0 t1 t5 title (codes "Points\n" ++ (points_text ++ (codes "Argument\n" ++ rest))) first
-    (and_more t1 t2 t5 (codes "Points\n") (points_text ++ (codes "Argument\n" ++ rest)) second (and_more t2 t3 t5 points_text (codes "Argument\n" ++ rest) third (and_more t3 t4 t5 (codes "Argument\n") rest fourth (fifth ∙ ap (λ xs. t4 ++ xs) told))))
-    ∙ (λ i. none i ++ (title_is t b ls marks points steps used count built h i ++ (codes "Points\n" ++ (points_told t b ls marks points steps used count built h i ++ (codes "Argument\n" ++ rest)))))
+    ∙ and_more t0 t1 t6 title (codes "Points\n" ++ (points_text ++ (codes "Argument\n" ++ (rest ++ summary)))) first
+    (and_more t1 t2 t6 (codes "Points\n") (points_text ++ (codes "Argument\n" ++ (rest ++ summary))) second
+    (and_more t2 t3 t6 points_text (codes "Argument\n" ++ (rest ++ summary)) third
+    (and_more t3 t4 t6 (codes "Argument\n") (rest ++ summary) fourth
+    (and_more t4 t5 t6 rest summary (fifth ∙ ap (λ xs. t4 ++ xs) told) sixth))))
+    ∙ (λ i. none i ++ (title_is t b ls marks points steps used count built h i ++ (codes "Points\n" ++ (points_told t b ls marks points steps used count built h i ++ (codes "Argument\n" ++ (rest ++ summary_is t b ls marks points steps used count built h i))))))

@@ -1,8 +1,8 @@
 -- Worked examples, by computation.
-use Rattle.std.specs.Prelude.{◌≡◌, ℕ, true, [], ◌∷◌, map, Option, Some, None, codes, refl}
+use Rattle.std.specs.Prelude.{◌≡◌, ℕ, true, false, [], ◌∷◌, map, Option, Some, None, codes, refl}
 use Rattle.std.specs.Fmt.{digits}
 use Rattle.wf_model.specs.ExampleTasks.{one, edge, path, consensus, renaming_2_2}
-use Rattle.wf_model.specs.Problem.{Constraint}
+use Rattle.wf_model.specs.Problem.{Constraint, problem_of}
 use Rattle.wf_model.specs.Refutation.{remove, empty, branch}
 use Rattle.wf_model.specs.Simplex.{complex_of}
 use Rattle.wf_model.specs.Task.{Task}
@@ -11,7 +11,7 @@ use Rattle.wf_argument.specs.declared.reasons.Reason.{Reason}
 use Rattle.wf_argument.specs.Parts.{parts_of, takes, closes, splits}
 use Rattle.wf_argument_words.specs.Text.{points_in}
 use Rattle.wf_argument.specs.State.{Gone, first_gone, needed, steps_in, taken, take_in, with_reasons}
-use Rattle.wf_argument.specs.Text.{argument_text, reasons_text}
+use Rattle.wf_argument.specs.Text.{argument_text, reasons_text, summary_text}
 
 abbrev lost : ℕ → Option ℕ → Loss
 lost a step = record { value = a; step = step }
@@ -62,17 +62,17 @@ pub in_one_step : steps_in one_point_twice 4 (0, 0) ((lost 0 (Some 2) ∷ []) �
 in_one_step = refl
 
 -- consensus of two after one round
-pub consensus_argument : argument_text consensus 1 (remove 0 0 1 ∷ remove 1 1 0 ∷ remove 3 1 1 ∷ remove 4 0 0 ∷ remove 2 0 1 ∷ empty 2 ∷ []) ≡ codes "No decision map after 1 round: 5 steps over 5 of 5 executions.\n\nPoints\n  v0 is p0 saw {p0=0}\n  v1 is p1 saw {p1=1}\n  v2 is p0 saw {p0=0, p1=1}\n  v3 is p1 saw {p0=0, p1=1}\nArgument\n  1. v0 is not 1: in execution 0, {p0=0}, no tuple at (v0) has it. So v0 is 0.\n  2. v1 is not 0: in execution 1, {p1=1}, no tuple at (v1) has it. So v1 is 1.\n  3. v3 is not 1: in execution 3, {p0=0}{p1=1}, (v0, v3) would be (1, 1), but v0 is not 1 [1]. So v3 is 0.\n  4. v2 is not 0: in execution 4, {p1=1}{p0=0}, (v2, v1) would be (0, 0), but v1 is not 0 [2]. So v2 is 1.\n  5. v2 is not 1: in execution 2, {p0=0 p1=1}, (v2, v3) would be (1, 1), but v3 is not 1 [3].\n  v2 has no value left.\n"
+pub consensus_argument : argument_text consensus 1 (remove 0 0 1 ∷ remove 1 1 0 ∷ remove 3 1 1 ∷ remove 4 0 0 ∷ remove 2 0 1 ∷ empty 2 ∷ []) ≡ codes "No decision map after 1 round: 5 steps over 5 of 5 executions.\n\nPoints\n  v0 is p0 saw {p0=0}\n  v1 is p1 saw {p1=1}\n  v2 is p0 saw {p0=0, p1=1}\n  v3 is p1 saw {p0=0, p1=1}\nArgument\n  1. v0 is not 1: in execution 0, {p0=0}, no tuple at (v0) has it. So v0 is 0.\n  2. v1 is not 0: in execution 1, {p1=1}, no tuple at (v1) has it. So v1 is 1.\n  3. v3 is not 1: in execution 3, {p0=0}{p1=1}, (v0, v3) would be (1, 1), but v0 is not 1 [1]. So v3 is 0.\n  4. v2 is not 0: in execution 4, {p1=1}{p0=0}, (v2, v1) would be (0, 0), but v1 is not 0 [2]. So v2 is 1.\n  5. v2 is not 1: in execution 2, {p0=0 p1=1}, (v2, v3) would be (1, 1), but v3 is not 1 [3].\n  v2 has no value left.\nIn all: 5 steps over 5 executions of p0 and p1: 2 of one process, 3 of two processes.\n"
 unfolding digits
 consensus_argument = refl
 
 -- renaming of two with two names: a symmetric task, whose points are told by ranks, and two cases
-pub renaming_argument : argument_text renaming_2_2 1 (branch 0 ∷ remove 3 1 0 ∷ remove 4 0 0 ∷ remove 2 0 1 ∷ empty 1 ∷ remove 3 1 1 ∷ remove 4 0 1 ∷ remove 2 0 0 ∷ empty 1 ∷ []) ≡ codes "No decision map after 1 round: 7 steps over 3 of 5 executions.\n\nPoints\n  v0 is #0 saw {#0=0}\n  v1 is #0 saw {#0=0, #1=0}\n  v2 is #1 saw {#0=0, #1=0}\nArgument\n  1. v0 is 0 or 1.\n    Case v0 = 0\n    2. v2 is not 0: in execution 3, {#0=0}{#1=0}, (v0, v2) would be (1, 0), but v0 is not 1 in this case. So v2 is 1.\n    3. v1 is not 0: in execution 4, {#1=0}{#0=0}, (v1, v0) would be (0, 1), but v0 is not 1 in this case. So v1 is 1.\n    4. v1 is not 1: in execution 2, {#0=0 #1=0}, (v1, v2) would be (1, 0), but v2 is not 0 [2].\n    v1 has no value left.\n    Case v0 = 1\n    5. v2 is not 1: in execution 3, {#0=0}{#1=0}, (v0, v2) would be (0, 1), but v0 is not 0 in this case. So v2 is 0.\n    6. v1 is not 1: in execution 4, {#1=0}{#0=0}, (v1, v0) would be (1, 0), but v0 is not 0 in this case. So v1 is 0.\n    7. v1 is not 0: in execution 2, {#0=0 #1=0}, (v1, v2) would be (0, 1), but v2 is not 1 [5].\n    v1 has no value left.\n"
+pub renaming_argument : argument_text renaming_2_2 1 (branch 0 ∷ remove 3 1 0 ∷ remove 4 0 0 ∷ remove 2 0 1 ∷ empty 1 ∷ remove 3 1 1 ∷ remove 4 0 1 ∷ remove 2 0 0 ∷ empty 1 ∷ []) ≡ codes "No decision map after 1 round: 7 steps over 3 of 5 executions.\n\nPoints\n  v0 is #0 saw {#0=0}\n  v1 is #0 saw {#0=0, #1=0}\n  v2 is #1 saw {#0=0, #1=0}\nArgument\n  1. v0 is 0 or 1.\n    Case v0 = 0\n    2. v2 is not 0: in execution 3, {#0=0}{#1=0}, (v0, v2) would be (1, 0), but v0 is not 1 in this case. So v2 is 1.\n    3. v1 is not 0: in execution 4, {#1=0}{#0=0}, (v1, v0) would be (0, 1), but v0 is not 1 in this case. So v1 is 1.\n    4. v1 is not 1: in execution 2, {#0=0 #1=0}, (v1, v2) would be (1, 0), but v2 is not 0 [2].\n    v1 has no value left.\n    Case v0 = 1\n    5. v2 is not 1: in execution 3, {#0=0}{#1=0}, (v0, v2) would be (0, 1), but v0 is not 0 in this case. So v2 is 0.\n    6. v1 is not 1: in execution 4, {#1=0}{#0=0}, (v1, v0) would be (1, 0), but v0 is not 0 in this case. So v1 is 0.\n    7. v1 is not 0: in execution 2, {#0=0 #1=0}, (v1, v2) would be (0, 1), but v2 is not 1 [5].\n    v1 has no value left.\nIn all: 7 steps over 3 executions of at most two processes: 3 of two processes.\n"
 unfolding digits
 renaming_argument = refl
 
 -- no round, and steps that take several values
-pub path_argument_without_rounds : argument_text (path 3) 0 (remove 0 0 1 ∷ remove 0 0 2 ∷ remove 0 0 3 ∷ remove 1 1 0 ∷ remove 1 1 1 ∷ remove 1 1 2 ∷ remove 2 0 0 ∷ empty 0 ∷ []) ≡ codes "No decision map after 0 rounds: 3 steps over 3 of 3 executions.\n\nPoints\n  v0 is p0=0\n  v1 is p1=0\nArgument\n  1. v0 is not 1, 2 or 3: in execution 0, {p0=0}, no tuple at (v0) has it. So v0 is 0.\n  2. v1 is not 0, 1 or 2: in execution 1, {p1=0}, no tuple at (v1) has it. So v1 is 3.\n  3. v0 is not 0: in execution 2, {p0=0 p1=0}, (v0, v1) would be (0, 0) or (0, 1), but v1 is not 0 or 1 [2].\n  v0 has no value left.\n"
+pub path_argument_without_rounds : argument_text (path 3) 0 (remove 0 0 1 ∷ remove 0 0 2 ∷ remove 0 0 3 ∷ remove 1 1 0 ∷ remove 1 1 1 ∷ remove 1 1 2 ∷ remove 2 0 0 ∷ empty 0 ∷ []) ≡ codes "No decision map after 0 rounds: 3 steps over 3 of 3 executions.\n\nPoints\n  v0 is p0=0\n  v1 is p1=0\nArgument\n  1. v0 is not 1, 2 or 3: in execution 0, {p0=0}, no tuple at (v0) has it. So v0 is 0.\n  2. v1 is not 0, 1 or 2: in execution 1, {p1=0}, no tuple at (v1) has it. So v1 is 3.\n  3. v0 is not 0: in execution 2, {p0=0 p1=0}, (v0, v1) would be (0, 0) or (0, 1), but v1 is not 0 or 1 [2].\n  v0 has no value left.\nIn all: 3 steps over 3 executions of p0 and p1: 2 of one process, 1 of two processes.\n"
 unfolding digits
 path_argument_without_rounds = refl
 
@@ -89,12 +89,21 @@ alike = record {
   outputs = complex_of (edge 0 1 ∷ one 0 1 ∷ one 0 2 ∷ one 1 0 ∷ one 1 2 ∷ []);
 }
 
-pub argument_about_one_point : argument_text alike 0 (remove 2 0 1 ∷ remove 2 0 2 ∷ remove 2 0 0 ∷ empty 0 ∷ []) ≡ codes "No decision map after 0 rounds: 2 steps over 1 of 3 executions.\n\nPoints\n  v0 is #0=0\nArgument\n  1. v0 is not 1 or 2: in execution 2, {#0=0 #1=0}, no tuple at (v0, v0) has it. So v0 is 0.\n  2. v0 is not 0: in execution 2, {#0=0 #1=0}, (v0, v0) would be (0, 1), but v0 is not 1 [1].\n  v0 has no value left.\n"
+pub argument_about_one_point : argument_text alike 0 (remove 2 0 1 ∷ remove 2 0 2 ∷ remove 2 0 0 ∷ empty 0 ∷ []) ≡ codes "No decision map after 0 rounds: 2 steps over 1 of 3 executions.\n\nPoints\n  v0 is #0=0\nArgument\n  1. v0 is not 1 or 2: in execution 2, {#0=0 #1=0}, no tuple at (v0, v0) has it. So v0 is 0.\n  2. v0 is not 0: in execution 2, {#0=0 #1=0}, (v0, v0) would be (0, 1), but v0 is not 1 [1].\n  v0 has no value left.\nIn all: 2 steps over 1 execution of at most two processes: 1 of two processes.\n"
 unfolding digits
 argument_about_one_point = refl
 
 -- only the points of which the lines speak are told; a line that names no
 -- participant of an execution is left out
-pub a_line_that_names_nobody : argument_text consensus 0 (remove 0 1 1 ∷ remove 0 0 1 ∷ empty 1 ∷ []) ≡ codes "No decision map after 0 rounds: 1 step over 1 of 3 executions.\n\nPoints\n  v0 is p0=0\n  v1 is p1=1\nArgument\n  1. v0 is not 1: in execution 0, {p0=0}, no tuple at (v0) has it. So v0 is 0.\n  v1 has no value left.\n"
+pub a_line_that_names_nobody : argument_text consensus 0 (remove 0 1 1 ∷ remove 0 0 1 ∷ empty 1 ∷ []) ≡ codes "No decision map after 0 rounds: 1 step over 1 of 3 executions.\n\nPoints\n  v0 is p0=0\n  v1 is p1=1\nArgument\n  1. v0 is not 1: in execution 0, {p0=0}, no tuple at (v0) has it. So v0 is 0.\n  v1 has no value left.\nIn all: 1 step over 1 execution of p0: 1 of one process.\n"
 unfolding digits
 a_line_that_names_nobody = refl
+
+-- an execution counts once, however many lines speak of it
+pub summary_of_two_executions : summary_text false (problem_of consensus 0) (remove 2 0 0 ∷ remove 0 0 1 ∷ remove 2 1 1 ∷ empty 0 ∷ []) ≡ codes "In all: 3 steps over 2 executions of p0 and p1: 1 of one process, 1 of two processes.\n"
+unfolding digits
+summary_of_two_executions = refl
+
+pub summary_without_executions : summary_text false (problem_of consensus 0) (branch 0 ∷ []) ≡ codes "In all: 1 step over 0 executions.\n"
+unfolding digits
+summary_without_executions = refl

@@ -1,16 +1,20 @@
 -- An argument in words that a task has no decision map after some rounds: the text of a
 -- refutation's lines, for people.
-use Rattle.std.specs.Prelude.{ℕ, zero, suc, ◌==◌, ◌&&◌, Bool, true, false, List, [], ◌∷◌, ◌++◌, ◌+◌, filter, flat_map, length, count_by, Option, Some, None, codes, decimal, if◌then◌else◌}
-use Rattle.std.specs.List.{enumerate_from, list_any}
+use Rattle.std.specs.Prelude.{ℕ, zero, suc, ◌==◌, ◌&&◌, Bool, true, false, not, List, [], ◌∷◌, ◌++◌, ◌+◌, map, filter, flat_map, length, count_by, Option, Some, None, codes, decimal, if◌then◌else◌}
+use Rattle.std.specs.List.{enumerate_from, list_any, range_with_len}
+use Rattle.wf_model.specs.Limits.{most_processes}
 use Rattle.wf_model.specs.Lists.{below, has}
+use Rattle.wf_model.specs.Simplex.{processes_of}
 use Rattle.wf_model.specs.Task.{Task, Tuple}
 use Rattle.wf_model.specs.View.{View}
 use Rattle.wf_model.specs.Points.{points}
 use Rattle.wf_model.specs.PointsText.{view_text}
-use Rattle.wf_model.specs.Problem.{Problem, problem_of, constraint_at}
+use Rattle.wf_model.specs.Problem.{Participant, Problem, problem_of, constraint_at}
 use Rattle.wf_model.specs.Check.{place_of}
 use Rattle.wf_model.specs.Refutation.{Line, remove, empty, branch, found}
 use Rattle.wf_argument_words.specs.Text.{NamedExecutions, counted, execution_at, indented, name, named_executions, needed_text, points_in, rest_text, values_text}
+use Rattle.wf_argument_words.specs.Summary.{about_text}
+use Rattle.wf_argument_words.specs.declared.summary.SizeCount.{SizeCount}
 use Rattle.wf_argument.specs.declared.reasons.Reason.{Reason}
 use Rattle.wf_argument.specs.Parts.{Part, takes, closes, splits, parts_of}
 use Rattle.wf_argument.specs.State.{Case, State, start, left_at, needed, take_in, steps_in, cases_at, after_step, after}
@@ -143,6 +147,42 @@ title_text p r ls =
     codes "No decision map after " ++ (counted r (codes "round") ++ (codes ": " ++ (counted (steps_made p (Some (start p)) (parts_of ls)) (codes "step")
     ++ (codes " over " ++ (decimal (used_count p ls) ++ (codes " of " ++ (counted (length p.constraints) (codes "execution") ++ codes ".\n\n")))))))
 
+-- ---- the summary
+
+-- the participants of each execution of which a line speaks, each execution once
+abbrev pub used_scopes : Problem → List Line → List (List Participant)
+used_scopes p ls = map (λ e. (constraint_at p e).scope) (filter (λ e. list_any (is_in e) ls) (below (length p.constraints)))
+
+-- how many of these executions have so many participants
+abbrev pub count_of_size : List (List Participant) → ℕ → ℕ
+count_of_size scopes n = count_by (λ scope. length scope == n) scopes
+
+abbrev pub is_some_count : SizeCount → Bool
+is_some_count x = not (x.count == 0)
+
+-- that of each size which occurs
+abbrev pub sizes_of : List (List Participant) → List SizeCount
+sizes_of scopes = filter is_some_count (map (λ n. record { size = n; count = count_of_size scopes n }) (range_with_len 1 most_processes))
+
+-- whether a process takes part in one of these executions
+abbrev pub takes_part : List (List Participant) → ℕ → Bool
+takes_part scopes c = list_any (λ scope. has (processes_of scope) c) scopes
+
+-- those who do
+abbrev pub participants_of : List (List Participant) → List ℕ
+participants_of scopes = filter (takes_part scopes) (below most_processes)
+
+-- In all: 3 steps over 3 executions of p0, p1 and p2: 1 of one process, 2 of three processes.
+abbrev pub summary_of : Bool → ℕ → ℕ → List (List Participant) → List ℕ
+summary_of ranks steps executions scopes =
+    codes "In all: " ++ (counted steps (codes "step") ++ (codes " over " ++ (counted executions (codes "execution")
+    ++ (about_text ranks (participants_of scopes) (sizes_of scopes) ++ codes ".\n"))))
+
+abbrev pub summary_text : Bool → Problem → List Line → List ℕ
+summary_text ranks p ls = summary_of ranks (steps_made p (Some (start p)) (parts_of ls)) (used_count p ls) (used_scopes p ls)
+
+-- ---- the argument
+
 -- what a point is
 abbrev pub point_text : Bool → ℕ × View → List ℕ
 point_text ranks at = indented 0 (name at.0 ++ (codes " is " ++ view_text ranks at.1))
@@ -150,9 +190,10 @@ point_text ranks at = indented 0 (name at.0 ++ (codes " is " ++ view_text ranks 
 abbrev pub used_points : Problem → List Line → List View → List (ℕ × View)
 used_points p ls views = filter (λ at. list_any (names p at.0) ls) (enumerate_from 0 views)
 
+-- the title, the points, the parts and the summary
 abbrev pub argument_text : Task → ℕ → List Line → List ℕ
 argument_text t r ls =
     let p = problem_of t r in
     title_text p r ls
     ++ (codes "Points\n" ++ (flat_map (point_text t.symmetric) (used_points p ls (points t r))
-    ++ (codes "Argument\n" ++ parts_text p (named_executions t r) (Some (start p)) (parts_of ls))))
+    ++ (codes "Argument\n" ++ (parts_text p (named_executions t r) (Some (start p)) (parts_of ls) ++ summary_text t.symmetric p ls))))

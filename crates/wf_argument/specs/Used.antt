@@ -1,12 +1,15 @@
 -- Which executions and points lines speak of, as marks; and the title.
-use Rattle.std.specs.Prelude.{◌≡◌, ◌<◌, ℕ, ◌==◌, ◌||◌, ◌++◌, Bool, true, false, List, [], map, filter, flat_map, length, codes, decimal}
-use Rattle.std.specs.List.{enumerate_from, slice_index_or}
+use Rattle.std.specs.Prelude.{◌≡◌, ◌<◌, ℕ, suc, ◌-◌, ◌==◌, ◌||◌, ◌++◌, Bool, true, false, List, [], ◌∷◌, map, filter, flat_map, length, codes, decimal, if◌then◌else◌}
+use Rattle.std.specs.List.{enumerate_from, range_with_len, slice_index_or}
+use Rattle.wf_model.specs.Limits.{most_processes}
 use Rattle.wf_model.specs.Lists.{has}
 use Rattle.wf_model.specs.Problem.{Participant}
 use Rattle.wf_model.specs.Refutation.{Line, remove, empty, branch, found}
 use Rattle.wf_model.specs.View.{View}
 use Rattle.wf_argument_words.specs.Text.{counted}
-use Rattle.wf_argument.specs.Text.{point_text}
+use Rattle.wf_argument_words.specs.declared.summary.SizeCount.{SizeCount}
+use Rattle.wf_argument.specs.Text.{count_of_size, is_some_count, point_text}
+use Rattle.wf_argument.specs.declared.summary.UsedExecutions.{UsedExecutions}
 
 -- the numbers that pass are marked too
 pub record AreMarked (old new : List Bool) (test : ℕ → Bool) : Type 0 where
@@ -45,3 +48,19 @@ usage_of used executions = codes " over " ++ (decimal used ++ (codes " of " ++ (
 abbrev pub title_of : ℕ → ℕ → ℕ → ℕ → List ℕ
 title_of rounds steps used executions =
     codes "No decision map after " ++ (counted rounds (codes "round") ++ (codes ": " ++ (counted steps (codes "step") ++ usage_of used executions)))
+
+-- ---- the executions of a summary
+
+-- those that are marked, by their participants
+abbrev pub marked_scopes : List Bool → List (List Participant) → List (List Participant)
+marked_scopes [] scopes = []
+marked_scopes (b ∷ marks) [] = []
+marked_scopes (b ∷ marks) (scope ∷ scopes) = if b then scope ∷ marked_scopes marks scopes else marked_scopes marks scopes
+
+-- those of these executions
+abbrev pub scopes_in : UsedExecutions → List (List Participant)
+scopes_in used = marked_scopes used.marks.now used.protocol.now.scopes
+
+-- the sizes that occur, from this one more than so many on
+abbrev pub sizes_left : List (List Participant) → ℕ → List SizeCount
+sizes_left scopes n = filter is_some_count (map (λ n. record { size = n; count = count_of_size scopes n }) (range_with_len (suc n) (most_processes - n)))

@@ -1,4 +1,4 @@
-//! An argument from its title to its last line.
+//! An argument from its title to its summary.
 
 ghost use Rattle.std.specs.Prelude.{◌≡◌, IfOk, map};
 ghost use Rattle.wf_complex.specs.Protocol.{IsProtocol};
@@ -7,6 +7,7 @@ ghost use Rattle.wf_argument.specs.Text.{argument_text};
 
 use crate::parts::put_lines;
 use crate::points::put_points;
+use crate::summary::{UsedExecutions, put_summary};
 use crate::title::put_title;
 use crate::used::{count, used_executions, used_points};
 use std::alloc::{AllocError, Global};
@@ -42,5 +43,7 @@ pub fn write_argument(
     put_points(&mut text, protocol, task.symmetric(), points.as_slice())?;
     writeln!(text, "Argument")?;
     text.push_str(parts.as_str())?;
+    let used = UsedExecutions::of(protocol, executions.as_slice());
+    put_summary(alloc, &mut text, task.symmetric(), steps, &used)?;
     Ok(text.into_bytes())
 }

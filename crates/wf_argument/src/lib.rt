@@ -19,6 +19,7 @@ mod reasons;
 mod seat;
 mod state;
 mod steps;
+mod summary;
 mod title;
 mod used;
 mod words;

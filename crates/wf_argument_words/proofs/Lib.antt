@@ -2,4 +2,5 @@ mod ExecutionPlaces
 mod ListsInWords
 mod Margins
 mod Pieces
+mod Sizes
 mod ValuesInWords

@@ -3,6 +3,7 @@ use Rattle.std.specs.Prelude.{◌≡◌, true, false, [], ◌∷◌, replicate, 
 use Rattle.std.specs.Fmt.{digits}
 use Rattle.wf_model.specs.ExampleTasks.{consensus, renaming_2_2}
 use Rattle.wf_argument_words.specs.Listing.{executions_text}
+use Rattle.wf_argument_words.specs.Summary.{about_text}
 use Rattle.wf_argument_words.specs.Text.{argument_names, needed_text, plain_names, rest_text, values_text, words_text}
 
 pub values_in_words : values_text (0 ∷ 2 ∷ 13 ∷ []) ≡ codes "0, 2 or 13"
@@ -64,3 +65,12 @@ executions_of_consensus = refl
 pub executions_of_renaming : executions_text renaming_2_2 1 ≡ codes "0 {p0} : 0\n1 {p1} : 0\n2 {p0 p1} : 1 2\n3 {p0}{p1} : 0 2\n4 {p1}{p0} : 1 0\n"
 unfolding digits
 executions_of_renaming = refl
+
+-- the processes of executions by their numbers, and in a symmetric task how many there are at most
+pub about_processes : about_text false (0 ∷ 1 ∷ 3 ∷ []) (record { size = 1; count = 2 } ∷ record { size = 3; count = 12 } ∷ []) ≡ codes " of p0, p1 and p3: 2 of one process, 12 of three processes"
+unfolding digits
+about_processes = refl
+
+pub about_ranks : about_text true (0 ∷ 1 ∷ []) (record { size = 2; count = 1 } ∷ []) ≡ codes " of at most two processes: 1 of two processes"
+unfolding digits
+about_ranks = refl

@@ -1,0 +1,137 @@
+//! The summary of an argument: its steps, the executions of which its lines speak, and who takes
+//! part in them.
+
+ghost use Rattle.std.specs.Prelude.{◌≡◌, ◌==◌, ◌&&◌, ◌<◌, [], ◌++◌, false, count_by, length, IfOk, OnOk, string_bytes};
+ghost use Rattle.std.specs.List.{slice_index_or};
+ghost use Rattle.wf_model.specs.Lists.{has};
+ghost use Rattle.wf_model.specs.Simplex.{processes_of};
+ghost use Rattle.wf_argument.specs.Text.{count_of_size, participants_of, sizes_of, summary_of, takes_part};
+ghost use Rattle.wf_argument.specs.Used.{scopes_in};
+
+use crate::used::count;
+use std::alloc::{AllocError, Global};
+use std::fmt::Write;
+use wf_argument_words::{SizeCount, put_about, put_count};
+use wf_complex::Protocol;
+
+/// The most processes.
+const MOST_PROCESSES: u8 = 4;
+
+/// The executions of which lines speak: those that are marked.
+#[derive(Clone, Copy)]
+pub(crate) struct UsedExecutions<'a> {
+    protocol: &'a Protocol,
+    marks: &'a [bool],
+}
+
+impl<'a> UsedExecutions<'a> {
+    /// Those that are marked.
+    pub(crate) fn of(protocol: &'a Protocol, marks: &'a [bool]) -> UsedExecutions<'a>
+        ensures protocol { result.protocol.now ≡ protocol.now }
+        ensures marks { result.marks.now ≡ marks.now }
+    {
+        UsedExecutions { protocol, marks }
+    }
+}
+
+/// Adds the summary of an argument with so many steps.
+pub(crate) fn put_summary(
+    alloc: Global,
+    text: &mut String,
+    ranks: bool,
+    steps: usize,
+    used: &UsedExecutions,
+) -> Result<(), AllocError>
+    requires { length used.now.marks.now ≡ length used.now.protocol.now.scopes }
+    ensures { let marked = count_by (λ is_marked. is_marked) used.now.marks.now in
+        OnOk result (string_bytes text.new
+        ≡ string_bytes text.old ++ summary_of ranks steps marked (scopes_in used.now)) }
+{
+    let processes = participants_of(alloc, used)?;
+    let sizes = sizes_of(alloc, used)?;
+    write!(text, "In all: ")?;
+    put_count(text, steps, "step")?;
+    write!(text, " over ")?;
+    put_count(text, count(used.marks), "execution")?;
+    put_about(text, ranks, processes.as_slice(), sizes.as_slice())?;
+    writeln!(text, ".")?;
+    Ok(())
+}
+
+/// Who takes part in the executions.
+fn participants_of(alloc: Global, used: &UsedExecutions) -> Result<Vec<u8>, AllocError>
+    requires { length used.now.marks.now ≡ length used.now.protocol.now.scopes }
+    ensures { IfOk result (λ processes. processes.items ≡ participants_of (scopes_in used.now)) }
+{
+    let mut processes = Vec::new(alloc);
+    for process in 0..MOST_PROCESSES {
+        if takes_part(used, process) {
+            processes.push(process)?;
+        }
+    }
+    Ok(processes)
+}
+
+/// Whether a process takes part in one of the executions.
+fn takes_part(used: &UsedExecutions, process: u8) -> bool
+    requires { length used.now.marks.now ≡ length used.now.protocol.now.scopes }
+    ensures { result ≡ takes_part (scopes_in used.now) process }
+{
+    for execution in 0..used.protocol.executions() {
+        if has_process(used, execution, process) {
+            return true;
+        }
+    }
+    false
+}
+
+/// Whether an execution is marked, and a process takes part in it.
+fn has_process(used: &UsedExecutions, execution: u32, process: u8) -> bool
+    requires long { length used.now.marks.now ≡ length used.now.protocol.now.scopes }
+    requires inside { execution < length used.now.protocol.now.scopes }
+    ensures { let scope = slice_index_or used.now.protocol.now.scopes execution [] in
+        result ≡ (slice_index_or used.now.marks.now execution false
+        && has (processes_of scope) process) }
+{
+    used.marks[execution as usize] && used.protocol.point_at(execution, process).is_some()
+}
+
+/// How many of the executions have so many participants, for each such number that occurs.
+fn sizes_of(alloc: Global, used: &UsedExecutions) -> Result<Vec<SizeCount>, AllocError>
+    requires { length used.now.marks.now ≡ length used.now.protocol.now.scopes }
+    ensures { IfOk result (λ sizes. sizes.items ≡ sizes_of (scopes_in used.now)) }
+{
+    let mut sizes = Vec::new(alloc);
+    for others in 0..MOST_PROCESSES {
+        let size = usize::from(others) + 1;
+        let count = count_of_size(used, size);
+        if count > 0 {
+            sizes.push(SizeCount { size, count })?;
+        }
+    }
+    Ok(sizes)
+}
+
+/// How many of the executions have so many participants.
+fn count_of_size(used: &UsedExecutions, size: usize) -> usize
+    requires { length used.now.marks.now ≡ length used.now.protocol.now.scopes }
+    ensures { result ≡ count_of_size (scopes_in used.now) size }
+{
+    let mut count = 0;
+    for execution in 0..used.protocol.executions() {
+        if has_size(used, execution, size) {
+            count += 1;
+        }
+    }
+    count
+}
+
+/// Whether an execution is marked, and has so many participants.
+fn has_size(used: &UsedExecutions, execution: u32, size: usize) -> bool
+    requires long { length used.now.marks.now ≡ length used.now.protocol.now.scopes }
+    requires inside { execution < length used.now.protocol.now.scopes }
+    ensures { let scope = slice_index_or used.now.protocol.now.scopes execution [] in
+        result ≡ (slice_index_or used.now.marks.now execution false && (length scope == size)) }
+{
+    used.marks[execution as usize] && used.protocol.points_of(execution).len() == size
+}
