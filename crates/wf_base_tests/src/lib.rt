@@ -20,6 +20,8 @@ mod clauses;
 #[cfg(test)]
 mod finder;
 #[cfg(test)]
+mod hints;
+#[cfg(test)]
 mod obstructions;
 #[cfg(test)]
 mod proofs;

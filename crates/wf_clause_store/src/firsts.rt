@@ -1,6 +1,6 @@
 //! For each literal the first clause that was stored with it.
 
-ghost use Rattle.std.specs.Prelude.{ℕ, suc, ◌≡◌, ◌≤◌, true, get_or, IfOk};
+ghost use Rattle.std.specs.Prelude.{ℕ, suc, ◌≡◌, ◌≤◌, ◌-◌, ◌^◌, true, get_or, replicate, IfOk};
 ghost use Rattle.wf_clause_store.specs.Firsts.{IsLowered};
 ghost use Rattle.wf_clause_store.specs.Literals.{has};
 
@@ -13,7 +13,7 @@ use wf_drat::Code;
 /// A clause of a contract sees the list of these numbers. A literal beyond the list is in no
 /// clause.
 #[derive(Drop)]
-pub(crate) struct Firsts {
+pub struct Firsts {
     numbers: Vec<u32>,
 }
 
@@ -27,14 +27,17 @@ impl Model for Firsts {
 
 impl Firsts {
     /// No clause has one of so many literals.
-    pub(crate) fn new(alloc: Global, codes: usize) -> Result<Firsts, AllocError> {
+    pub fn new(alloc: Global, codes: usize) -> Result<Firsts, AllocError>
+        ensures { IfOk result (λ firsts. firsts ≡ replicate codes (2 ^ 32 - 1)) }
+    {
         let numbers = vec![in alloc; u32::MAX; codes]?;
         Ok(Firsts { numbers })
     }
 
     /// The number of a literal.
-    pub(crate) fn of(&self, literal: Code) -> u32
-        ensures { (n : ℕ) → get_or self.now literal (suc n) ≤ n → result ≤ n }
+    pub fn of(&self, literal: Code) -> u32
+        ensures sound { (n : ℕ) → get_or self.now literal (suc n) ≤ n → result ≤ n }
+        ensures exact { result ≡ get_or self.now literal (2 ^ 32 - 1) }
     {
         match self.numbers.get(literal as usize) {
             Some(number) => *number,
@@ -43,7 +46,7 @@ impl Firsts {
     }
 
     /// The clause of this number has these literals.
-    pub(crate) fn note(&mut self, clause: &[Code], number: u32) -> Result<(), AllocError>
+    pub fn note(&mut self, clause: &[Code], number: u32) -> Result<(), AllocError>
         ensures still { IsLowered self.old self.new }
         ensures noted { IfOk result (λ done. (l : ℕ) → has clause.now l ≡ true
             → get_or self.new l (suc number) ≤ number) }

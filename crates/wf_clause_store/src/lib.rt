@@ -8,6 +8,7 @@
 //!
 //! - [`Catalogue`]: the clauses by their numbers, by a hash of their literals, and by the least
 //!   number with a literal.
+//! - [`Firsts`]: for each literal a number that no clause with the literal is below.
 //! - [`Trail`]: the literals that are true, in the order in which they became so.
 //! - [`negated`]: the literal with the other sign.
 #![tactic(auto)]
@@ -21,4 +22,5 @@ mod index;
 mod trail;
 
 pub use catalogue::Catalogue;
+pub use firsts::Firsts;
 pub use trail::{Trail, negated};

@@ -12,6 +12,9 @@ pub type Code = u32;
 /// The largest number that a variable may have.
 pub const MOST_VARIABLES: u32 = 2_147_483_646;
 
+/// A proof may bring in so many variables beside those of the clauses.
+pub const MOST_NEW_VARIABLES: u32 = 1 << 22;
+
 /// A variable, by its number from 1 on, or its negation.
 #[derive(Clone, Copy, Debug, PartialEq, Eq)]
 pub struct Literal {

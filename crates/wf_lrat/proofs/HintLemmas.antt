@@ -1,15 +1,15 @@
 -- Laws of the literals that are open, and of the hints that are followed.
-use Rattle.std.proofs.Common.{◌≡◌, ℕ, ◌+◌, ◌<◌, true, false, List, [], ◌∷◌, ◌++◌, refl, sym, ◌∙◌, ap, length, drop, get_or}
-use Rattle.std.specs.Prelude.{cond, not, Option, Some}
+use Rattle.std.proofs.Common.{◌≡◌, ℕ, ◌+◌, ◌<◌, true, false, List, [], ◌∷◌, refl, sym, ◌∙◌, ap, length, drop, get_or}
+use Rattle.std.specs.Prelude.{cond, if◌then◌else◌, not, Option, Some}
 use Rattle.std.proofs.lemmas.List.{drop_more}
 use Rattle.wf_clauses.specs.Formula.{Clause, Literal, negation}
 use Rattle.wf_drat.specs.Codes.{literal_of}
-use Rattle.wf_lrat.specs.Hints.{by_hint, by_open, hinted, is_on, open_literals}
+use Rattle.wf_lrat_text.specs.declared.reader.Hint.{Hint}
+use Rattle.wf_lrat.specs.Hints.{Followed, by_hint, by_open, followed, goes_on, is_on, open_literals, stops, with_true}
 use Rattle.wf_lrat.specs.Ledger.{slot_of}
 use Rattle.wf_lrat.specs.Slots.{clause_of, opened_of}
 use Rattle.wf_lrat.specs.declared.scan.Opened.{Opened}
 use Rattle.wf_lrat.specs.declared.scan.Opened.TheVariants.{Nothing, One, Several}
-use Rattle.wf_lrat.specs.declared.verdict.HintVerdict.{HintVerdict}
 use Rattle.wf_lrat.specs.declared.verdict.HintVerdict.TheVariants.{Conflict, NoConflict}
 use Rattle.wf_lrat.proofs.LiteralLemmas.{literal_of-code_of}
 
@@ -51,23 +51,32 @@ module _ (trail : List Literal) (clause : List ℕ) (i f : ℕ) (within : i < le
 -- ---- hints are followed
 
 -- what a clause comes to of which these literals are open
-abbrev pub verdict_on : Opened → List Literal → (List Literal → HintVerdict) → HintVerdict
-verdict_on Nothing trail rest = Conflict
-verdict_on (One l) trail rest = rest (trail ++ literal_of l ∷ [])
-verdict_on Several trail rest = NoConflict
+abbrev pub course_on : Opened → List Literal → (List Literal → Followed) → Followed
+course_on Nothing trail rest = stops Conflict
+course_on (One l) trail rest = rest (with_true trail (literal_of l))
+course_on Several trail rest = stops NoConflict
 
-by_open-opened : (ls trail : List Literal) (rest : List Literal → HintVerdict) → by_open ls trail rest ≡ verdict_on (opened_of ls) trail rest
+by_open-opened : (ls trail : List Literal) (rest : List Literal → Followed) → by_open ls trail rest ≡ course_on (opened_of ls) trail rest
 by_open-opened [] trail rest = refl
-by_open-opened (l ∷ []) trail rest = ap (λ m. rest (trail ++ m ∷ [])) (sym (literal_of-code_of l))
+by_open-opened (l ∷ []) trail rest = ap (λ m. rest (with_true trail m)) (sym (literal_of-code_of l))
 by_open-opened (l ∷ m ∷ more) trail rest = refl
 
-module _ (slots : List (Option Clause)) (trail : List Literal) (hints : List ℕ) (i : ℕ) (within : i < length hints) where
-  -- the rest of the hints
-  abbrev pub rest_of : List Literal → HintVerdict
-  rest_of next = hinted slots next (drop (i + 1) hints)
+module _ (slots : List (Option Clause)) (trail : List Literal) (hints : List Hint) (i : ℕ) (d : Hint) (within : i < length hints) where
+  -- the next hint, and the rest of them
+  abbrev hint : Hint
+  hint = get_or hints i d
 
-  pub hint_step : (clause : Clause) (o : Opened) → slot_of slots (get_or hints i 0) ≡ Some clause → o ≡ opened_of (open_literals trail clause)
-      → hinted slots trail (drop i hints) ≡ verdict_on o trail rest_of
-  hint_step clause o some is =
-      ap (hinted slots trail) (drop_more hints i 0 within) ∙ ap (λ s. by_hint s trail rest_of) some
-      ∙ by_open-opened (open_literals trail clause) trail rest_of ∙ ap (λ x. verdict_on x trail rest_of) (sym is)
+  abbrev pub rest_of : List Literal → Followed
+  rest_of next = followed slots next (drop (i + 1) hints)
+
+  at_hint : followed slots trail (drop i hints) ≡ (if hint.is_negative then goes_on trail else by_hint (slot_of slots hint.id) trail rest_of)
+  at_hint = ap (followed slots trail) (drop_more hints i d within)
+
+  at_positive : hint.is_negative ≡ false → followed slots trail (drop i hints) ≡ by_hint (slot_of slots hint.id) trail rest_of
+  at_positive positive = at_hint ∙ ap (λ b. if b then goes_on trail else by_hint (slot_of slots hint.id) trail rest_of) positive
+
+  pub hint_step : (clause : Clause) (o : Opened) → hint.is_negative ≡ false → slot_of slots hint.id ≡ Some clause → o ≡ opened_of (open_literals trail clause)
+      → followed slots trail (drop i hints) ≡ course_on o trail rest_of
+  hint_step clause o positive some is_open =
+      at_positive positive ∙ ap (λ s. by_hint s trail rest_of) some
+      ∙ by_open-opened (open_literals trail clause) trail rest_of ∙ ap (λ x. course_on x trail rest_of) (sym is_open)

@@ -1,7 +1,9 @@
 pub mod LiteralLemmas
-pub mod TrailLemmas
 pub mod HintLemmas
+pub mod RatLemmas
+pub mod JudgeLemmas
 pub mod SlotLemmas
+pub mod FirstsLemmas
 pub mod ModelLemmas
 pub mod FedLemmas
 pub mod GivenLemmas

@@ -5,12 +5,12 @@ use Rattle.std.proofs.lemmas.Bool.{cases_Bool}
 use Rattle.wf_clauses.specs.Formula.{Clause}
 use Rattle.wf_lrat_text.specs.Text.{State, Step, addition, deletion, state_after, step_of, text_from, text_of, turn_of}
 use Rattle.wf_lrat_text.specs.declared.reader.HintTurn.{HintTurn}
-use Rattle.wf_lrat_text.specs.declared.reader.HintTurn.TheVariants.{GoesOn, Begins, BeginsDeletion, Takes, EndsClause, Names, Ends, Stops}
+use Rattle.wf_lrat_text.specs.declared.reader.HintTurn.TheVariants.{GoesOn, Begins, BeginsDeletion, Takes, EndsClause, Names, Deletes, Ends, Stops}
 use Rattle.wf_lrat.specs.Fed.{Outcome, by_step, by_verdict, fault_at, outcome_of, reads, refuses, refutes, unless_refuted}
 use Rattle.wf_lrat.specs.Hints.{verdict_of}
 use Rattle.wf_lrat.specs.Ledger.{Ledger}
 use Rattle.wf_lrat.specs.declared.verdict.HintVerdict.{HintVerdict}
-use Rattle.wf_lrat.specs.declared.verdict.HintVerdict.TheVariants.{Conflict, NoConflict, UnknownHint, IdOutOfRange}
+use Rattle.wf_lrat.specs.declared.verdict.HintVerdict.TheVariants.{Conflict, NoConflict, UnknownHint, ClauseLeftOut, IdOutOfRange}
 use Rattle.wf_lrat.proofs.FedLemmas.{refuted_outcome}
 
 -- what further bytes come to
@@ -24,6 +24,7 @@ by_verdict-resumed : (more : List ℕ) (v : HintVerdict) (line id : ℕ) (clause
 by_verdict-resumed more Conflict line id clause l rest = refl
 by_verdict-resumed more NoConflict line id clause l rest = refl
 by_verdict-resumed more UnknownHint line id clause l rest = refl
+by_verdict-resumed more ClauseLeftOut line id clause l rest = refl
 by_verdict-resumed more IdOutOfRange line id clause l rest = refl
 
 by_step-resumed : (more : List ℕ) (step : Step) (l : Ledger) (rest : Ledger → Outcome)
@@ -54,7 +55,8 @@ turn-resumed (Begins id) s byte bytes more rest l = rest (state_after (Begins id
 turn-resumed BeginsDeletion s byte bytes more rest l = rest (state_after BeginsDeletion byte s) l
 turn-resumed (Takes literal) s byte bytes more rest l = rest (state_after (Takes literal) byte s) l
 turn-resumed EndsClause s byte bytes more rest l = rest (state_after EndsClause byte s) l
-turn-resumed (Names id) s byte bytes more rest l = rest (state_after (Names id) byte s) l
+turn-resumed (Names hint) s byte bytes more rest l = rest (state_after (Names hint) byte s) l
+turn-resumed (Deletes id) s byte bytes more rest l = rest (state_after (Deletes id) byte s) l
 turn-resumed Ends s byte bytes more rest l =
     let after = state_after Ends byte s in
     (λ i. unless_refuted l (by_step (step_of s) l (λ next. rest after next i)))

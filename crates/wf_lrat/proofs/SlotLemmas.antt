@@ -58,7 +58,7 @@ all_placed-append arena more places all = λ k d h. placed-append arena more (ge
 
 -- ---- no clause
 
-placed-nothing : (arena : List ℕ) → IsPlaced arena 0
+pub placed-nothing : (arena : List ℕ) → IsPlaced arena 0
 placed-nothing arena = λ pos. absurd (let bad : ⊥ = omega (arith, pos) in bad)
 
 pub slots_in-delete : (arena places : List ℕ) (id : ℕ) → 0 < id → slots_in arena (set places (id - 1) 0) ≡ emptied id (slots_in arena places)

@@ -1,7 +1,8 @@
 -- What a checker makes of a proof's bytes.
-use Rattle.std.specs.Prelude.{◌≡◌, ◌⊎◌, ℕ, List, [], ◌∷◌, if◌then◌else◌}
+use Rattle.std.specs.Prelude.{◌≡◌, ◌⊎◌, ℕ, ◌+◌, List, [], ◌∷◌, if◌then◌else◌}
 use Rattle.wf_clauses.specs.Formula.{Clause}
-use Rattle.wf_lrat_text.specs.Text.{End, State, Step, Text, addition, broken_in, deletion, open_in, text_of}
+use Rattle.wf_drat.specs.Codes.{most_new_variables}
+use Rattle.wf_lrat_text.specs.Text.{End, State, Step, Text, addition, at_start, broken_in, deletion, open_in, text_of}
 use Rattle.wf_lrat_text.specs.declared.reader.HintFlaw.{HintFlaw}
 use Rattle.wf_lrat_text.specs.declared.reader.HintFlaw.TheVariants as flaw
 use Rattle.wf_lrat.specs.Ledger.{Ledger, deleted, learned}
@@ -9,7 +10,12 @@ use Rattle.wf_lrat.specs.Hints.{verdict_of}
 use Rattle.wf_lrat.specs.declared.verdict.HintVerdict.{HintVerdict}
 use Rattle.wf_lrat.specs.declared.verdict.HintVerdict.TheVariants as verdict
 use Rattle.wf_lrat.specs.declared.proof.HintFault.{HintFault}
-use Rattle.wf_lrat.specs.declared.proof.HintFault.TheVariants.{NotALiteral, NoSuchVariable, NegativeHint, NoConflict, UnknownHint, IdOutOfRange, NoContradiction, Binary, OutOfMemory}
+use Rattle.wf_lrat.specs.declared.proof.HintFault.TheVariants.{NotALiteral, NoSuchVariable, NoConflict, UnknownHint, ClauseLeftOut, IdOutOfRange, NoContradiction, Binary, OutOfMemory}
+
+-- where a proof's text begins, of clauses on the variables from 1 to this
+-- number: it may bring in further ones
+abbrev pub proof_start : ℕ → State
+proof_start variables = at_start (variables + most_new_variables)
 
 -- a text is read to its end, where this is known; or the contradiction is
 -- found; or the text is refused
@@ -22,7 +28,6 @@ pub data Outcome : Type 0 where
 abbrev pub fault_at : ℕ → HintFlaw → HintFault
 fault_at line flaw.NotALiteral = NotALiteral line
 fault_at line flaw.NoSuchVariable = NoSuchVariable line
-fault_at line flaw.NegativeHint = NegativeHint line
 fault_at line flaw.Binary = Binary
 
 -- a clause with this verdict is learned, and then the rest of the text is
@@ -31,6 +36,7 @@ abbrev pub by_verdict : HintVerdict → ℕ → ℕ → Clause → Ledger → (L
 by_verdict verdict.Conflict line id clause l rest = rest (learned id clause l)
 by_verdict verdict.NoConflict line id clause l rest = refuses (NoConflict line) l
 by_verdict verdict.UnknownHint line id clause l rest = refuses (UnknownHint line) l
+by_verdict verdict.ClauseLeftOut line id clause l rest = refuses (ClauseLeftOut line) l
 by_verdict verdict.IdOutOfRange line id clause l rest = refuses (IdOutOfRange line) l
 
 -- a step is taken, and then the rest of the text is read; or it is refused

@@ -21,9 +21,13 @@ HasNoModel ledger = (a : Assignment) → IsModelOf a ledger → ⊥
 abbrev pub KeepsModels : Ledger → Ledger → Type 0
 KeepsModels old new = (a : Assignment) → IsModelOf a old → IsModelOf a new
 
--- each model of the ledger satisfies the clause
-abbrev pub Entails : Ledger → Clause → Type 0
-Entails ledger clause = (a : Assignment) → IsModelOf a ledger → satisfies a clause ≡ true
+-- each model of the ledger can be changed into one that satisfies the clause too
+abbrev pub IsRedundant : Ledger → Clause → Type 0
+IsRedundant ledger clause = (a : Assignment) → IsModelOf a ledger → (b : Assignment) × IsModelOf b ledger × (satisfies b clause ≡ true)
+
+-- if the first ledger has a model, the second one has one
+abbrev pub KeepsSatisfiable : Ledger → Ledger → Type 0
+KeepsSatisfiable old new = (a : Assignment) → IsModelOf a old → (b : Assignment) × IsModelOf b new
 
 -- a formula whose clauses are a ledger without a model has none
 abbrev pub RefutesFormula : Formula → Type 0

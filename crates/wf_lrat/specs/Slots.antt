@@ -1,8 +1,11 @@
--- How clauses lie in one list of numbers, and which literals are marked.
-use Rattle.std.specs.Prelude.{◌≡◌, ℕ, ◌+◌, ◌-◌, ◌<◌, ◌≤◌, ◌==◌, Bool, false, List, [], ◌∷◌, Option, Some, None, if◌then◌else◌, get_or, length, map}
-use Rattle.std.specs.List.{list_any, slice_range}
+-- How clauses lie in one list of numbers, and what the code says of them.
+use Rattle.std.specs.Prelude.{◌≡◌, ℕ, suc, ◌+◌, ◌-◌, ◌<◌, ◌≤◌, ◌==◌, true, List, [], ◌∷◌, Option, Some, None, if◌then◌else◌, get_or, length, map}
+use Rattle.std.specs.List.{slice_range}
 use Rattle.wf_clauses.specs.Formula.{Clause, Literal}
 use Rattle.wf_drat.specs.Codes.{code_of, literal_of}
+use Rattle.wf_lrat.specs.Hints.{Followed, goes_on, has_literal, stops}
+use Rattle.wf_lrat.specs.declared.follow.HintCourse.{HintCourse}
+use Rattle.wf_lrat.specs.declared.follow.HintCourse.TheVariants.{Stops, GoesOn}
 use Rattle.wf_lrat.specs.declared.scan.Opened.{Opened}
 use Rattle.wf_lrat.specs.declared.scan.Opened.TheVariants.{Nothing, One, Several}
 
@@ -24,16 +27,18 @@ slots_in arena places = map (slot_at arena) places
 abbrev pub IsPlaced : List ℕ → ℕ → Type 0
 IsPlaced arena place = 0 < place → place + get_or arena (place - 1) 0 ≤ length arena
 
--- the literal is in the list
-abbrev pub has_code : List ℕ → ℕ → Bool
-has_code literals l = list_any (λ x. x == l) literals
-
--- the marked literals are those in the list
-pub record IsMarked (marks : List Bool) (literals : List ℕ) : Type 0 where
-  pub marked : (l : ℕ) → get_or marks l false ≡ has_code literals l
+-- a number of each literal by its code: each clause that has the literal has that number from 0, or
+-- a higher one
+abbrev pub AreFirsts : List ℕ → List (Option Clause) → Type 0
+AreFirsts firsts slots = (l n : ℕ) → has_literal (get_or slots n None) (literal_of l) ≡ true → get_or firsts l (suc n) ≤ n
 
 -- how many open literals there are, and which one if there is one
 abbrev pub opened_of : List Literal → Opened
 opened_of [] = Nothing
 opened_of (l ∷ []) = One (code_of l)
 opened_of (l ∷ m ∷ more) = Several
+
+-- what hints come to behind which these literals are true
+abbrev pub told : HintCourse → List Literal → Followed
+told (Stops verdict) trail = stops verdict
+told GoesOn trail = goes_on trail

@@ -1,20 +1,23 @@
 //! The checker.
 
-ghost use Rattle.std.specs.Prelude.{◌≡◌, [], IfOk, OnErr, OnOk, IsTrue, is_ok, if◌then◌else◌, map};
-ghost use Rattle.wf_clauses.specs.Formula.{negation};
-ghost use Rattle.wf_lrat.specs.Hints.{after_verdict, hinted, is_next_id, verdict_by, verdict_of};
+ghost use Rattle.std.specs.Prelude.{◌≡◌, [], IfOk, OnErr, OnOk, IsTrue, is_ok, if◌then◌else◌};
+ghost use Rattle.wf_lrat.specs.Hints.{after_verdict, is_next_id, verdict_by, verdict_of};
 ghost use Rattle.wf_lrat.specs.Ledger.{added, deleted, empty_ledger};
-ghost use Rattle.wf_lrat.specs.Models.{Entails, HasNoModel, KeepsModels};
+ghost use Rattle.wf_lrat.specs.Models.{HasNoModel, IsRedundant, KeepsModels, KeepsSatisfiable};
 ghost use Rattle.wf_lrat.specs.Slots.{clause_of};
 ghost use Rattle.wf_lrat.specs.declared.verdict.HintVerdict.TheVariants.{Conflict};
 
 use crate::clauses::HintClauses;
-use crate::scan::{Opened, is_one_true, open_in};
-use crate::trail::{HintTrail, flipped};
+use crate::follow::{HintCourse, assume, follow};
+use crate::groups::next_group;
+use crate::rat::by_pivot;
+use crate::scan::is_one_true;
 use crate::verdict::HintVerdict;
 use std::alloc::{AllocError, Global};
 use std::marker::Model;
+use wf_clause_store::Trail;
 use wf_drat::{Code, Literal};
+use wf_lrat_text::Hint;
 
 /// A clause's id is at most so many times as large as the number of clauses that there ever were,
 /// this one among them: so memory follows the length of a proof. Solvers number their clauses one
@@ -29,7 +32,7 @@ pub const MOST_ID_GROWTH: u64 = 64;
 pub struct HintChecker {
     variables: u32,
     clauses: HintClauses,
-    trail: HintTrail,
+    trail: Trail,
     // the codes of the clause at hand
     codes: Vec<Code>,
     count: u64,
@@ -60,8 +63,8 @@ impl HintChecker {
     {
         Ok(HintChecker {
             variables,
-            clauses: HintClauses::new(alloc),
-            trail: HintTrail::new(alloc, 2 * variables as usize + 2)?,
+            clauses: HintClauses::new(alloc, 2 * variables as usize + 2)?,
+            trail: Trail::new(alloc, 2 * variables as usize + 2)?,
             codes: Vec::new(alloc),
             count: 0,
             is_refuted: false,
@@ -96,20 +99,22 @@ impl HintChecker {
     }
 
     /// What the hints of a clause come to: the clauses that they name are looked at one by one,
-    /// where all literals of the clause are false. Where one of them is false, the clause follows,
-    /// and is kept under this id. Otherwise nothing changes.
+    /// where all literals of the clause are false. If one of them is false, the clause follows. If
+    /// none is up to the first negative hint, or to the end, the clause is to be a resolution
+    /// asymmetric tautology (RAT) on its first literal. A clause that is justified is kept under
+    /// this id; otherwise nothing changes.
     pub fn derive(
         &mut self,
         alloc: Global,
         id: u64,
         clause: &[Literal],
-        hints: &[u64],
+        hints: &[Hint],
     ) -> Result<HintVerdict, AllocError>
         ensures verdict { IfOk result (λ v. v ≡ verdict_of self.old id clause.now hints.now) }
         ensures after { IfOk result (λ v. self.new ≡ after_verdict v id clause.now self.old) }
         ensures unchanged { OnErr result (self.new ≡ self.old) }
-        ensures sound { IfOk result (λ v. v ≡ Conflict → Entails self.old clause.now) }
-        ensures kept { KeepsModels self.old self.new }
+        ensures sound { IfOk result (λ v. v ≡ Conflict → IsRedundant self.old clause.now) }
+        ensures kept { KeepsSatisfiable self.old self.new }
     {
         self.judge(alloc, id, clause, hints)
     }
@@ -132,13 +137,13 @@ impl HintChecker {
         }
     }
 
-    /// What the hints of a clause come to; where it follows it is kept under this id.
+    /// What the hints of a clause come to; if they justify it, it is kept under this id.
     fn judge(
         &mut self,
         alloc: Global,
         id: u64,
         clause: &[Literal],
-        hints: &[u64],
+        hints: &[Hint],
     ) -> Result<HintVerdict, AllocError>
         ensures verdict { IfOk result (λ v. v ≡ verdict_of self.old id clause.now hints.now) }
         ensures after { IfOk result (λ v. self.new ≡ after_verdict v id clause.now self.old) }
@@ -181,9 +186,9 @@ fn put_codes(codes: &mut Vec<Code>, clause: &[Literal]) -> Result<(), AllocError
 /// What the hints of a clause come to. No literal is true before and behind it.
 fn verdict_by(
     clauses: &HintClauses,
-    trail: &mut HintTrail,
+    trail: &mut Trail,
     clause: &[Code],
-    hints: &[u64],
+    hints: &[Hint],
 ) -> Result<HintVerdict, AllocError>
     requires { trail.old ≡ [] }
     ensures idle { trail.new ≡ [] }
@@ -191,16 +196,16 @@ fn verdict_by(
         (λ v. v ≡ verdict_by clauses.now (clause_of clause.now) hints.now) }
 {
     let verdict = on_trail(clauses, trail, clause, hints);
-    trail.clear();
+    trail.undo(0);
     verdict
 }
 
 /// What the hints of a clause come to, on a trail with no literal.
 fn on_trail(
     clauses: &HintClauses,
-    trail: &mut HintTrail,
+    trail: &mut Trail,
     clause: &[Code],
-    hints: &[u64],
+    hints: &[Hint],
 ) -> Result<HintVerdict, AllocError>
     requires { trail.old ≡ [] }
     ensures { IfOk result (λ v. v ≡ verdict_by clauses.now (clause_of clause.now) hints.now) }
@@ -209,37 +214,8 @@ fn on_trail(
     if is_one_true(clause, trail) {
         return Ok(HintVerdict::Conflict);
     }
-    follow(clauses, trail, hints)
-}
-
-/// The literals of a clause are false.
-fn assume(trail: &mut HintTrail, clause: &[Code]) -> Result<(), AllocError>
-    requires { trail.old ≡ [] }
-    ensures { OnOk result (trail.new ≡ map negation (clause_of clause.now)) }
-{
-    'literals: for literal in clause {
-        trail.put(flipped(*literal))?;
+    match follow(clauses, trail, hints)? {
+        HintCourse::Stops { verdict } => Ok(verdict),
+        HintCourse::GoesOn => by_pivot(clauses, trail, clause, next_group(hints)),
     }
-    Ok(())
-}
-
-/// What these hints come to where the literals of the trail are true.
-fn follow(
-    clauses: &HintClauses,
-    trail: &mut HintTrail,
-    hints: &[u64],
-) -> Result<HintVerdict, AllocError>
-    ensures { IfOk result (λ v. v ≡ hinted clauses.now trail.old hints.now) }
-{
-    'hints: for id in hints {
-        let Some(clause) = clauses.literals(*id) else {
-            return Ok(HintVerdict::UnknownHint);
-        };
-        match open_in(clause, trail) {
-            Opened::Nothing => return Ok(HintVerdict::Conflict),
-            Opened::One { literal } => trail.put(literal)?,
-            Opened::Several => return Ok(HintVerdict::NoConflict),
-        }
-    }
-    Ok(HintVerdict::NoConflict)
 }

@@ -1,15 +1,22 @@
 //! The clauses by their ids.
 
-ghost use Rattle.std.specs.Prelude.{◌≡◌, ◌<◌, ◌-◌, ◌^◌, ◌∷◌, ◌++◌, [], Some, None, IfOk, OnOk, MatchOption, get_or, is_ok, if◌then◌else◌, length, replicate};
+ghost use Rattle.std.specs.Prelude.{◌≡◌, ℕ, false, ◌<◌, ◌-◌, ◌^◌, ◌∷◌, ◌++◌, [], Some, None, IfOk, OnOk, MatchOption, get_or, is_ok, if◌then◌else◌, length, replicate};
+ghost use Rattle.wf_drat.specs.Codes.{literal_of};
+ghost use Rattle.wf_lrat.specs.Hints.{has_literal};
 ghost use Rattle.wf_lrat.specs.Ledger.{emptied, slot_of};
 ghost use Rattle.wf_lrat.specs.Slots.{clause_of};
 
+use crate::scan::has_code;
 use std::alloc::{AllocError, Global};
 use std::marker::Model;
+use wf_clause_store::Firsts;
 use wf_drat::Code;
 
 /// The most words that there are.
 const MOST_WORDS: usize = u32::MAX as usize;
+
+/// The largest number that tells of a clause with a literal.
+const LAST: usize = u32::MAX as usize - 1;
 
 /// So many words of clauses that were deleted are borne with.
 const FEW: usize = 4096;
@@ -23,6 +30,8 @@ pub(crate) struct HintClauses {
     arena: Vec<Code>,
     // where the literals of each id begin; 0 where there is no clause
     places: Vec<u32>,
+    // for each literal a number from 0 that no clause with the literal is below
+    firsts: Firsts,
     // how many words of the arena are of clauses that were deleted
     dead: usize,
 }
@@ -30,25 +39,24 @@ pub(crate) struct HintClauses {
 impl Model for HintClauses {
     ghost use Rattle.std.specs.Prelude.{List, Option, All};
     ghost use Rattle.wf_clauses.specs.Formula.{Clause};
-    ghost use Rattle.wf_lrat.specs.Slots.{IsPlaced, slots_in};
+    ghost use Rattle.wf_lrat.specs.Slots.{AreFirsts, IsPlaced, slots_in};
 
     ghost Value = { List (Option Clause) };
 
     ghost view = { λ c. slots_in c.arena.items c.places.items };
 
-    ghost invariant = { λ c. All (IsPlaced c.arena.items) c.places.items };
+    ghost invariant = { λ c. record {
+      placed : All (IsPlaced c.arena.items) c.places.items;
+      firsts : AreFirsts c.firsts (slots_in c.arena.items c.places.items);
+    } };
 }
 
 impl HintClauses {
-    /// No clause.
-    pub(crate) fn new(alloc: Global) -> HintClauses
-        ensures { result ≡ [] }
+    /// No clause; there is room for the literals with so many codes.
+    pub(crate) fn new(alloc: Global, codes: usize) -> Result<HintClauses, AllocError>
+        ensures { IfOk result (λ clauses. clauses ≡ []) }
     {
-        HintClauses {
-            arena: Vec::new(alloc),
-            places: Vec::new(alloc),
-            dead: 0,
-        }
+        HintClauses::with_room(alloc, codes, 0, 0)
     }
 
     /// The largest id that there was.
@@ -77,6 +85,24 @@ impl HintClauses {
         Some(&self.arena[place..place + size])
     }
 
+    /// Whether there is a clause with this id, and it has the literal.
+    pub(crate) fn has_literal(&self, id: u64, literal: Code) -> bool
+        ensures { result ≡ has_literal (slot_of self.now id) (literal_of literal) }
+    {
+        match self.literals(id) {
+            Some(clause) => has_code(clause, literal),
+            None => false,
+        }
+    }
+
+    /// How many ids at least, from 1 on, are of no clause that has the literal.
+    pub(crate) fn first(&self, literal: Code) -> usize
+        ensures { (k : ℕ) → k < result
+            → has_literal (get_or self.now k None) (literal_of literal) ≡ false }
+    {
+        self.firsts.of(literal) as usize
+    }
+
     /// Keeps a clause under an id above all others. Refused for want of memory alone, which there
     /// is for fewer than 2^32 words; then nothing changes.
     pub(crate) fn put(&mut self, id: usize, clause: &[Code]) -> Result<(), AllocError>
@@ -89,6 +115,7 @@ impl HintClauses {
         if head >= MOST_WORDS || clause.len() > MOST_WORDS - 1 - head {
             return Err(AllocError);
         }
+        self.firsts.note(clause, (id - 1).min(LAST) as u32)?;
         self.arena.push(clause.len() as u32)?;
         self.arena.extend_from_slice(clause)?;
         self.places.resize(id, 0)?;
@@ -144,7 +171,7 @@ impl HintClauses {
         ensures { self.new ≡ self.old }
     {
         let words = self.arena.len().saturating_sub(self.dead);
-        let mut kept = HintClauses::with_room(alloc, words, self.places.len())?;
+        let mut kept = HintClauses::with_room(alloc, 0, words, self.places.len())?;
         'ids: for number in 0..self.len() {
             kept.copy(self, number)?;
         }
@@ -152,13 +179,19 @@ impl HintClauses {
         Ok(())
     }
 
-    /// No clause, with room for so many words and ids.
-    fn with_room(alloc: Global, words: usize, ids: usize) -> Result<HintClauses, AllocError>
+    /// No clause, with room for the literals with so many codes, and for so many words and ids.
+    fn with_room(
+        alloc: Global,
+        codes: usize,
+        words: usize,
+        ids: usize,
+    ) -> Result<HintClauses, AllocError>
         ensures { IfOk result (λ clauses. clauses ≡ []) }
     {
         Ok(HintClauses {
             arena: Vec::with_capacity(alloc, words)?,
             places: Vec::with_capacity(alloc, ids)?,
+            firsts: Firsts::new(alloc, codes)?,
             dead: 0,
         })
     }

@@ -1,9 +1,13 @@
 //! A checker of clausal proofs with hints (LRAT): each clause comes with the ids of those from
-//! which it follows by unit propagation, one after the other.
+//! which it follows by unit propagation, one after the other. Or it is a resolution asymmetric
+//! tautology (RAT) on its first literal. Then such ids stand in a group of its own for each clause
+//! that has the negation of that literal, behind the negated id of that clause.
 //!
 //! It knows propositional logic alone, and nothing of who wrote the proof. The promise: if
 //! [`HintChecker::is_refuted`] answers true, and so if [`HintProof::finish`] accepts, the clauses
-//! that were added have no common model, whatever the proof's bytes are.
+//! that were added have no common model, whatever the proof's bytes are. A clause that is RAT need
+//! not follow, so the promise rests on a weaker fact than that each clause follows: each step keeps
+//! that there is a model (`KeepsSatisfiable`).
 //!
 //! - [`HintChecker`]: takes the clauses one by one, and the steps of a proof. What hints come to is
 //!   a definition that computes (`specs/Hints`), and so is what a checker knows (`specs/Ledger`).
@@ -13,7 +17,10 @@
 
 mod checker;
 mod clauses;
+mod follow;
+mod groups;
 mod proof;
+mod rat;
 mod scan;
 mod trail;
 mod verdict;
@@ -21,4 +28,5 @@ mod verdict;
 pub use checker::{HintChecker, MOST_ID_GROWTH};
 pub use proof::{HintFault, HintProof};
 pub use verdict::HintVerdict;
-pub use wf_drat::{Literal, MOST_VARIABLES};
+pub use wf_drat::{Literal, MOST_NEW_VARIABLES, MOST_VARIABLES};
+pub use wf_lrat_text::Hint;

@@ -1,15 +1,17 @@
 //! The text form of clausal proofs with hints (LRAT).
 //!
-//! A proof is a list of steps. A clause has an id, its literals in DIMACS, ended by 0, and the ids
-//! of the clauses from which it follows, ended by 0. A deletion has an id with no meaning, `d`, and
+//! A proof is a list of steps. A clause has an id, its literals in DIMACS, ended by 0, and its
+//! hints, ended by 0: the ids of the clauses from which it follows. If it is a resolution asymmetric
+//! tautology (RAT) that does not follow, groups stand behind those ids: each is the negated id of a
+//! clause, and the hints about that clause. A deletion has an id with no meaning, `d`, and
 //! the ids of the clauses to delete, ended by 0. A step may span lines. Lines that begin with `c`
 //! between two steps are passed over.
 
 ghost use Rattle.std.specs.Prelude.{◌≡◌, ◌∷◌, List, ℕ, false, IfErr, IfOk};
-ghost use Rattle.wf_lrat.specs.Fed.{IsReadTo, IsRefusedFor, Outcome, by_step, fault_at, outcome_at_end, outcome_of, refutes};
+ghost use Rattle.wf_lrat.specs.Fed.{IsReadTo, IsRefusedFor, Outcome, by_step, fault_at, outcome_at_end, outcome_of, proof_start, refutes};
 ghost use Rattle.wf_lrat.specs.Ledger.{Ledger};
-ghost use Rattle.wf_lrat.specs.Models.{HasNoModel, KeepsModels};
-ghost use Rattle.wf_lrat_text.specs.Text.{at_start, state_after, step_in, step_of, text_from, text_of};
+ghost use Rattle.wf_lrat.specs.Models.{HasNoModel, KeepsSatisfiable};
+ghost use Rattle.wf_lrat_text.specs.Text.{state_after, step_in, step_of, text_from, text_of};
 ghost use Rattle.wf_lrat_text.specs.declared.reader.HintPart.TheVariants.{Hints};
 ghost use Rattle.wf_lrat_text.specs.declared.reader.HintTurn.TheVariants.{Ends};
 ghost use Rattle.wf_lrat.specs.declared.proof.HintFault.TheVariants.{OutOfMemory};
@@ -18,6 +20,7 @@ use crate::checker::HintChecker;
 use crate::verdict::HintVerdict;
 use std::alloc::{AllocError, Global};
 use std::marker::Model;
+use wf_drat::MOST_NEW_VARIABLES;
 use wf_lrat_text::{HintFlaw, HintPart, HintReader, HintTurn};
 
 /// Why a proof is refused. Lines are counted from 1.
@@ -28,14 +31,9 @@ pub enum HintFault {
         /// The number of the line.
         line: u64,
     },
-    /// This line has a literal of a variable that the clauses don't have.
+    /// This line has a variable whose number is larger than those of the clauses' variables and of
+    /// the [`MOST_NEW_VARIABLES`] that a proof may bring in.
     NoSuchVariable {
-        /// The number of the line.
-        line: u64,
-    },
-    /// This line has a negative hint. Such hints are of steps that rest on resolution asymmetric
-    /// tautologies (RAT), which are not checked.
-    NegativeHint {
         /// The number of the line.
         line: u64,
     },
@@ -46,6 +44,11 @@ pub enum HintFault {
     },
     /// A hint of the clause that ends in this line is the id of no clause.
     UnknownHint {
+        /// The number of the line.
+        line: u64,
+    },
+    /// Among the hints that end in this line, a clause that needs a group has none in its place.
+    ClauseLeftOut {
         /// The number of the line.
         line: u64,
     },
@@ -89,12 +92,13 @@ impl Model for HintProof {
 }
 
 impl HintProof {
-    /// A proof of which nothing was read, of clauses on the variables from 1 to this number.
+    /// A proof of which nothing was read, of clauses on the variables from 1 to this number. It may
+    /// bring in the next [`MOST_NEW_VARIABLES`] variables.
     pub fn new(alloc: Global, variables: u32) -> HintProof
-        ensures { result ≡ at_start variables }
+        ensures { result ≡ proof_start variables }
     {
         HintProof {
-            reader: HintReader::new(alloc, variables),
+            reader: HintReader::new(alloc, variables.saturating_add(MOST_NEW_VARIABLES)),
         }
     }
 
@@ -116,7 +120,7 @@ impl HintProof {
         checker: &mut HintChecker,
         piece: &[u8],
     ) -> Result<(), HintFault>
-        ensures kept { KeepsModels checker.old checker.new }
+        ensures kept { KeepsSatisfiable checker.old checker.new }
         ensures read { IfOk result (λ done. IsReadTo
             (outcome_of (text_of self.old piece.now) checker.old) self.new checker.new) }
         ensures refused { IfErr result (λ fault. IsRefusedFor
@@ -166,7 +170,7 @@ impl HintProof {
     /// Reads one byte, where the contradiction was not found yet.
     fn read(&mut self, alloc: Global, checker: &mut HintChecker, byte: u8) -> Result<(), HintFault>
         requires { checker.old.is_refuted ≡ false }
-        ensures kept { KeepsModels checker.old checker.new }
+        ensures kept { KeepsSatisfiable checker.old checker.new }
         ensures read { IfOk result (λ done. (bytes : List ℕ) →
             outcome_of (text_of self.old (byte ∷ bytes)) checker.old
             ≡ outcome_of (text_of self.new bytes) checker.new) }
@@ -181,7 +185,8 @@ impl HintProof {
             HintTurn::BeginsDeletion => self.go_on(HintTurn::BeginsDeletion, byte),
             HintTurn::Takes { literal } => self.go_on(HintTurn::Takes { literal }, byte),
             HintTurn::EndsClause => self.go_on(HintTurn::EndsClause, byte),
-            HintTurn::Names { id } => self.go_on(HintTurn::Names { id }, byte),
+            HintTurn::Names { hint } => self.go_on(HintTurn::Names { hint }, byte),
+            HintTurn::Deletes { id } => self.go_on(HintTurn::Deletes { id }, byte),
         }
     }
 
@@ -204,7 +209,7 @@ impl HintProof {
         byte: u8,
     ) -> Result<(), HintFault>
         requires { checker.old.is_refuted ≡ false }
-        ensures kept { KeepsModels checker.old checker.new }
+        ensures kept { KeepsSatisfiable checker.old checker.new }
         ensures read { IfOk result (λ done. (bytes : List ℕ) → outcome_of
             (text_from Ends self.old byte (λ next. text_of next bytes)) checker.old
             ≡ outcome_of (text_of self.new bytes) checker.new) }
@@ -220,7 +225,7 @@ impl HintProof {
 
     /// The clause with its hints is judged, or the clauses are deleted.
     fn judge(&self, alloc: Global, checker: &mut HintChecker) -> Result<(), HintFault>
-        ensures kept { KeepsModels checker.old checker.new }
+        ensures kept { KeepsSatisfiable checker.old checker.new }
         ensures taken { IfOk result (λ done. (rest : Ledger → Outcome) →
             by_step (step_of self.now) checker.old rest ≡ rest checker.new) }
         ensures refused { IfErr result (λ fault. (rest : Ledger → Outcome) → IsRefusedFor
@@ -228,7 +233,7 @@ impl HintProof {
     {
         match self.reader.part() {
             HintPart::Ids => {
-                checker.delete(self.reader.names());
+                checker.delete(self.reader.ids());
                 Ok(())
             }
             HintPart::Front => self.learn(alloc, checker),
@@ -239,7 +244,7 @@ impl HintProof {
 
     /// The clause with its hints is judged.
     fn learn(&self, alloc: Global, checker: &mut HintChecker) -> Result<(), HintFault>
-        ensures kept { KeepsModels checker.old checker.new }
+        ensures kept { KeepsSatisfiable checker.old checker.new }
         ensures taken { IfOk result (λ done. (rest : Ledger → Outcome) →
             by_step (step_in Hints self.now) checker.old rest ≡ rest checker.new) }
         ensures refused { IfErr result (λ fault. (rest : Ledger → Outcome) → IsRefusedFor
@@ -250,11 +255,12 @@ impl HintProof {
             alloc,
             self.reader.id(),
             self.reader.clause(),
-            self.reader.names(),
+            self.reader.hints(),
         ) {
             Ok(HintVerdict::Conflict) => Ok(()),
             Ok(HintVerdict::NoConflict) => Err(HintFault::NoConflict { line }),
             Ok(HintVerdict::UnknownHint) => Err(HintFault::UnknownHint { line }),
+            Ok(HintVerdict::ClauseLeftOut) => Err(HintFault::ClauseLeftOut { line }),
             Ok(HintVerdict::IdOutOfRange) => Err(HintFault::IdOutOfRange { line }),
             Err(_) => Err(HintFault::OutOfMemory),
         }
@@ -268,7 +274,6 @@ fn fault_at(line: u64, flaw: HintFlaw) -> HintFault
     match flaw {
         HintFlaw::NotALiteral => HintFault::NotALiteral { line },
         HintFlaw::NoSuchVariable => HintFault::NoSuchVariable { line },
-        HintFlaw::NegativeHint => HintFault::NegativeHint { line },
         HintFlaw::Binary => HintFault::Binary,
     }
 }

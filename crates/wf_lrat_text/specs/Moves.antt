@@ -5,7 +5,7 @@ use Rattle.wf_lrat_text.specs.Text.{State, after, text_of}
 use Rattle.wf_lrat_text.specs.declared.numbers.NumberRead.{NumberRead}
 use Rattle.wf_lrat_text.specs.declared.reader.HintReading.TheVariants.{Number}
 use Rattle.wf_lrat_text.specs.declared.reader.HintTurn.{HintTurn}
-use Rattle.wf_lrat_text.specs.declared.reader.HintTurn.TheVariants.{GoesOn, Begins, BeginsDeletion, Takes, EndsClause, Names, Ends, Stops}
+use Rattle.wf_lrat_text.specs.declared.reader.HintTurn.TheVariants.{GoesOn, Begins, BeginsDeletion, Takes, EndsClause, Names, Deletes, Ends, Stops}
 
 -- the bytes from one place on, read in this state, say what those from
 -- another one on say, read in another state
@@ -43,4 +43,5 @@ is_last (Begins id) = false
 is_last BeginsDeletion = false
 is_last (Takes literal) = false
 is_last EndsClause = false
-is_last (Names id) = false
+is_last (Names hint) = false
+is_last (Deletes id) = false

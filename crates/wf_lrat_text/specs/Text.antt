@@ -4,24 +4,25 @@ use Rattle.std.specs.Char.{is_ascii_digit}
 use Rattle.wf_clauses.specs.Formula.{Clause, pos, neg}
 use Rattle.wf_drat.specs.Codes.{most_variables}
 use Rattle.wf_drat.specs.Text.{is_blank, is_of_text}
+use Rattle.wf_lrat_text.specs.declared.reader.Hint.{Hint}
 use Rattle.wf_lrat_text.specs.declared.reader.HintFlaw.{HintFlaw}
-use Rattle.wf_lrat_text.specs.declared.reader.HintFlaw.TheVariants.{NotALiteral, NoSuchVariable, NegativeHint, Binary}
+use Rattle.wf_lrat_text.specs.declared.reader.HintFlaw.TheVariants.{NotALiteral, NoSuchVariable, Binary}
 use Rattle.wf_lrat_text.specs.declared.reader.HintReading.{HintReading}
 use Rattle.wf_lrat_text.specs.declared.reader.HintReading.TheVariants.{Blank, Comment, Minus, Number}
 use Rattle.wf_lrat_text.specs.declared.reader.HintPart.{HintPart}
 use Rattle.wf_lrat_text.specs.declared.reader.HintPart.TheVariants.{Front, Literals, Hints, Ids}
 use Rattle.wf_lrat_text.specs.declared.reader.HintTurn.{HintTurn}
-use Rattle.wf_lrat_text.specs.declared.reader.HintTurn.TheVariants.{GoesOn, Begins, BeginsDeletion, Takes, EndsClause, Names, Ends, Stops}
+use Rattle.wf_lrat_text.specs.declared.reader.HintTurn.TheVariants.{GoesOn, Begins, BeginsDeletion, Takes, EndsClause, Names, Deletes, Ends, Stops}
 
--- a step: a clause with an id, and the ids of those from which it follows,
--- which ends in the line of this number; or ids of clauses to delete
+-- a step: a clause with an id, and the hints that justify it, which ends in
+-- the line of this number; or ids of clauses to delete
 pub data Step : Type 0 where
-  addition : (line id : ℕ) → Clause → (hints : List ℕ) → Step
+  addition : (line id : ℕ) → Clause → (hints : List Hint) → Step
   deletion : (ids : List ℕ) → Step
 
 -- a reader of a text: the text is on the variables from 1 to this number; the next byte stands in
 -- the line of this number; what the bytes before it are; which part of a step is at hand; and of
--- that step its id, its literals so far, and the ids so far behind them or behind a d
+-- that step its id, its literals so far, its hints so far, and the ids so far behind a d
 pub record State : Type 0 where
   pub variables : ℕ
   pub line : ℕ
@@ -29,7 +30,8 @@ pub record State : Type 0 where
   pub part : HintPart
   pub id : ℕ
   pub clause : Clause
-  pub names : List ℕ
+  pub hints : List Hint
+  pub ids : List ℕ
 
 -- at the front of a text
 abbrev pub at_start : ℕ → State
@@ -40,7 +42,8 @@ at_start variables = record {
   part = Front;
   id = 0;
   clause = [];
-  names = [];
+  hints = [];
+  ids = [];
 }
 
 -- ---- bytes
@@ -74,20 +77,25 @@ literal_turn variables is_negative value =
     else if nat_lt variables value then Stops NoSuchVariable
     else Takes (if is_negative then neg value else pos value)
 
--- a number was read among ids: one of them, or the 0 that ends the step; a
--- negative one is refused for this flaw
-abbrev pub name_turn : HintFlaw → Bool → ℕ → HintTurn
-name_turn flaw is_negative value =
+-- a number was read among hints: one of them, or the 0 that ends the step
+abbrev pub hint_turn : Bool → ℕ → HintTurn
+hint_turn is_negative value =
     if value == 0 then (if is_negative then Stops NotALiteral else Ends)
-    else if is_negative then Stops flaw
-    else Names value
+    else Names (record { id = value; is_negative = is_negative })
+
+-- a number was read among ids to delete: one of them, or the 0 that ends the step
+abbrev pub deletion_turn : Bool → ℕ → HintTurn
+deletion_turn is_negative value =
+    if is_negative then Stops NotALiteral
+    else if value == 0 then Ends
+    else Deletes value
 
 -- a number was read in this part of a step
 abbrev pub number_turn_in : HintPart → ℕ → Bool → ℕ → HintTurn
 number_turn_in Front variables is_negative value = id_turn is_negative value
 number_turn_in Literals variables is_negative value = literal_turn variables is_negative value
-number_turn_in Hints variables is_negative value = name_turn NegativeHint is_negative value
-number_turn_in Ids variables is_negative value = name_turn NotALiteral is_negative value
+number_turn_in Hints variables is_negative value = hint_turn is_negative value
+number_turn_in Ids variables is_negative value = deletion_turn is_negative value
 
 abbrev pub number_turn : State → Bool → ℕ → HintTurn
 number_turn s is_negative value = number_turn_in s.part s.variables is_negative value
@@ -142,13 +150,14 @@ turn_of s byte = turn_behind s.reading s byte
 
 -- what is read then
 abbrev pub after : HintTurn → State → State
-after (GoesOn reading) s = record { variables = s.variables; line = s.line; reading = reading; part = s.part; id = s.id; clause = s.clause; names = s.names }
-after (Begins id) s = record { variables = s.variables; line = s.line; reading = Blank; part = Literals; id = id; clause = s.clause; names = s.names }
-after BeginsDeletion s = record { variables = s.variables; line = s.line; reading = Blank; part = Ids; id = s.id; clause = s.clause; names = s.names }
-after (Takes literal) s = record { variables = s.variables; line = s.line; reading = Blank; part = s.part; id = s.id; clause = s.clause ++ literal ∷ []; names = s.names }
-after EndsClause s = record { variables = s.variables; line = s.line; reading = Blank; part = Hints; id = s.id; clause = s.clause; names = s.names }
-after (Names id) s = record { variables = s.variables; line = s.line; reading = Blank; part = s.part; id = s.id; clause = s.clause; names = s.names ++ id ∷ [] }
-after Ends s = record { variables = s.variables; line = s.line; reading = Blank; part = Front; id = 0; clause = []; names = [] }
+after (GoesOn reading) s = record { variables = s.variables; line = s.line; reading = reading; part = s.part; id = s.id; clause = s.clause; hints = s.hints; ids = s.ids }
+after (Begins id) s = record { variables = s.variables; line = s.line; reading = Blank; part = Literals; id = id; clause = s.clause; hints = s.hints; ids = s.ids }
+after BeginsDeletion s = record { variables = s.variables; line = s.line; reading = Blank; part = Ids; id = s.id; clause = s.clause; hints = s.hints; ids = s.ids }
+after (Takes literal) s = record { variables = s.variables; line = s.line; reading = Blank; part = s.part; id = s.id; clause = s.clause ++ literal ∷ []; hints = s.hints; ids = s.ids }
+after EndsClause s = record { variables = s.variables; line = s.line; reading = Blank; part = Hints; id = s.id; clause = s.clause; hints = s.hints; ids = s.ids }
+after (Names hint) s = record { variables = s.variables; line = s.line; reading = Blank; part = s.part; id = s.id; clause = s.clause; hints = s.hints ++ hint ∷ []; ids = s.ids }
+after (Deletes id) s = record { variables = s.variables; line = s.line; reading = Blank; part = s.part; id = s.id; clause = s.clause; hints = s.hints; ids = s.ids ++ id ∷ [] }
+after Ends s = record { variables = s.variables; line = s.line; reading = Blank; part = Front; id = 0; clause = []; hints = []; ids = [] }
 after (Stops flaw) s = s
 
 -- lines are counted as far as 64 bits hold their number
@@ -160,7 +169,8 @@ next_line byte s = record {
   part = s.part;
   id = s.id;
   clause = s.clause;
-  names = s.names;
+  hints = s.hints;
+  ids = s.ids;
 }
 
 abbrev pub state_after : HintTurn → ℕ → State → State
@@ -168,10 +178,10 @@ state_after turn byte s = next_line byte (after turn s)
 
 -- the step that ends here
 abbrev pub step_in : HintPart → State → Step
-step_in Ids s = deletion s.names
-step_in Front s = addition s.line s.id s.clause s.names
-step_in Literals s = addition s.line s.id s.clause s.names
-step_in Hints s = addition s.line s.id s.clause s.names
+step_in Ids s = deletion s.ids
+step_in Front s = addition s.line s.id s.clause s.hints
+step_in Literals s = addition s.line s.id s.clause s.hints
+step_in Hints s = addition s.line s.id s.clause s.hints
 
 abbrev pub step_of : State → Step
 step_of s = step_in s.part s
@@ -197,7 +207,8 @@ text_from (Begins id) s byte rest = rest (state_after (Begins id) byte s)
 text_from BeginsDeletion s byte rest = rest (state_after BeginsDeletion byte s)
 text_from (Takes literal) s byte rest = rest (state_after (Takes literal) byte s)
 text_from EndsClause s byte rest = rest (state_after EndsClause byte s)
-text_from (Names id) s byte rest = rest (state_after (Names id) byte s)
+text_from (Names hint) s byte rest = rest (state_after (Names hint) byte s)
+text_from (Deletes id) s byte rest = rest (state_after (Deletes id) byte s)
 text_from Ends s byte rest = behind (step_of s ∷ []) (rest (state_after Ends byte s))
 text_from (Stops flaw) s byte rest = record { steps = []; end = broken_in s.line flaw }
 

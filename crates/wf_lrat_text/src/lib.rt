@@ -12,4 +12,4 @@ mod reader;
 mod turns;
 
 pub use numbers::MOST_NUMBER;
-pub use reader::{HintFlaw, HintPart, HintReader, HintReading, HintTurn};
+pub use reader::{Hint, HintFlaw, HintPart, HintReader, HintReading, HintTurn};

@@ -7,8 +7,8 @@ ghost use Rattle.wf_lrat_text.specs.declared.reader.HintTurn.TheVariants.{Ends};
 
 use crate::numbers::number_from;
 use crate::turns::{
-    comment_turn, digit_turn, id_turn, is_blank, kind_turn, mark_turn, name_turn, sign_turn,
-    stray_turn,
+    comment_turn, deletion_turn, digit_turn, hint_turn, id_turn, is_blank, kind_turn, mark_turn,
+    sign_turn, stray_turn,
 };
 use std::alloc::{AllocError, Global};
 use std::marker::Model;
@@ -21,8 +21,6 @@ pub enum HintFlaw {
     NotALiteral,
     /// A literal is of a variable that there isn't.
     NoSuchVariable,
-    /// A hint is negative: it belongs to a step that rests on a resolution asymmetric tautology.
-    NegativeHint,
     /// The proof is in the binary form.
     Binary,
 }
@@ -47,10 +45,19 @@ pub enum HintPart {
     Front,
     /// The literals of a clause; or a deletion's mark in place of the first one.
     Literals,
-    /// The ids of the clauses from which the clause follows.
+    /// The hints that justify the clause.
     Hints,
     /// The ids of the clauses to delete.
     Ids,
+}
+
+/// The id of a clause, as it stands among hints.
+#[derive(Clone, Copy, Debug, PartialEq, Eq)]
+pub struct Hint {
+    /// The id.
+    pub id: u64,
+    /// Whether there is a sign in front of it: the hints behind it are then about this clause.
+    pub is_negative: bool,
 }
 
 /// What a byte comes to.
@@ -66,8 +73,10 @@ pub enum HintTurn {
     Takes { literal: Literal },
     /// The literals of the clause were read.
     EndsClause,
-    /// A hint was read, or the id of a clause to delete.
-    Names { id: u64 },
+    /// A hint was read.
+    Names { hint: Hint },
+    /// The id of a clause to delete was read.
+    Deletes { id: u64 },
     /// A step was read.
     Ends,
     /// The text is none of a proof.
@@ -83,8 +92,9 @@ pub struct HintReader {
     part: HintPart,
     id: u64,
     clause: Vec<Literal>,
-    // hints, or the ids of clauses to delete
-    names: Vec<u64>,
+    hints: Vec<Hint>,
+    // the ids of clauses to delete
+    ids: Vec<u64>,
 }
 
 impl Model for HintReader {
@@ -101,7 +111,8 @@ impl Model for HintReader {
       part = r.part;
       id = r.id;
       clause = r.clause.items;
-      names = r.names.items;
+      hints = r.hints.items;
+      ids = r.ids.items;
     } };
 
     ghost invariant = { λ r. r.variables ≤ most_variables };
@@ -119,7 +130,8 @@ impl HintReader {
             part: HintPart::Front,
             id: 0,
             clause: Vec::new(alloc),
-            names: Vec::new(alloc),
+            hints: Vec::new(alloc),
+            ids: Vec::new(alloc),
         }
     }
 
@@ -155,12 +167,20 @@ impl HintReader {
         &self.clause
     }
 
-    /// The hints so far of the step at hand, or the ids so far of a deletion.
+    /// The hints so far of the step at hand.
     #[inline]
-    pub fn names(&self) -> &[u64]
-        ensures { result.now ≡ self.now.names }
+    pub fn hints(&self) -> &[Hint]
+        ensures { result.now ≡ self.now.hints }
     {
-        &self.names
+        &self.hints
+    }
+
+    /// The ids so far of the clauses that the step at hand deletes.
+    #[inline]
+    pub fn ids(&self) -> &[u64]
+        ensures { result.now ≡ self.now.ids }
+    {
+        &self.ids
     }
 
     /// What the next byte comes to.
@@ -223,8 +243,8 @@ impl HintReader {
         match self.part {
             HintPart::Front => id_turn(is_negative, value),
             HintPart::Literals => self.literal_turn(is_negative, value),
-            HintPart::Hints => name_turn(HintFlaw::NegativeHint, is_negative, value),
-            HintPart::Ids => name_turn(HintFlaw::NotALiteral, is_negative, value),
+            HintPart::Hints => hint_turn(is_negative, value),
+            HintPart::Ids => deletion_turn(is_negative, value),
         }
     }
 
@@ -293,9 +313,14 @@ impl HintReader {
                 self.part = HintPart::Hints;
                 Ok(())
             }
-            HintTurn::Names { id } => {
+            HintTurn::Names { hint } => {
                 self.reading = HintReading::Blank;
-                self.names.push(id)?;
+                self.hints.push(hint)?;
+                Ok(())
+            }
+            HintTurn::Deletes { id } => {
+                self.reading = HintReading::Blank;
+                self.ids.push(id)?;
                 Ok(())
             }
             HintTurn::Ends => {
@@ -314,7 +339,8 @@ impl HintReader {
         self.part = HintPart::Front;
         self.id = 0;
         self.clause.clear();
-        self.names.clear();
+        self.hints.clear();
+        self.ids.clear();
     }
 
     /// Takes the number that stands in a piece from this place on, where the reader is behind a

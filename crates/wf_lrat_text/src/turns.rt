@@ -3,10 +3,10 @@
 ghost use Rattle.std.specs.Prelude.{◌≡◌, IsTrue};
 ghost use Rattle.std.specs.Char.{is_ascii_digit};
 ghost use Rattle.wf_drat.specs.Text.{is_blank, is_of_text};
-ghost use Rattle.wf_lrat_text.specs.Text.{comment_turn, digit_turn, id_turn, kind_turn, mark_turn, name_turn, sign_turn, stray_turn};
+ghost use Rattle.wf_lrat_text.specs.Text.{comment_turn, digit_turn, deletion_turn, hint_turn, id_turn, kind_turn, mark_turn, sign_turn, stray_turn};
 
 use crate::numbers::with_digit;
-use crate::reader::{HintFlaw, HintReading, HintTurn};
+use crate::reader::{Hint, HintFlaw, HintReading, HintTurn};
 
 /// What a number comes to where a step begins.
 #[inline(always)]
@@ -22,10 +22,10 @@ pub(crate) fn id_turn(is_negative: bool, value: u64) -> HintTurn
     }
 }
 
-/// What a number comes to among ids.
+/// What a number comes to among hints.
 #[inline(always)]
-pub(crate) fn name_turn(flaw: HintFlaw, is_negative: bool, value: u64) -> HintTurn
-    ensures { result ≡ name_turn flaw is_negative value }
+pub(crate) fn hint_turn(is_negative: bool, value: u64) -> HintTurn
+    ensures { result ≡ hint_turn is_negative value }
 {
     if value == 0 {
         if is_negative {
@@ -35,10 +35,29 @@ pub(crate) fn name_turn(flaw: HintFlaw, is_negative: bool, value: u64) -> HintTu
         } else {
             HintTurn::Ends
         }
-    } else if is_negative {
-        HintTurn::Stops { flaw }
     } else {
-        HintTurn::Names { id: value }
+        HintTurn::Names {
+            hint: Hint {
+                id: value,
+                is_negative,
+            },
+        }
+    }
+}
+
+/// What a number comes to among the ids of clauses to delete.
+#[inline(always)]
+pub(crate) fn deletion_turn(is_negative: bool, value: u64) -> HintTurn
+    ensures { result ≡ deletion_turn is_negative value }
+{
+    if is_negative {
+        HintTurn::Stops {
+            flaw: HintFlaw::NotALiteral,
+        }
+    } else if value == 0 {
+        HintTurn::Ends
+    } else {
+        HintTurn::Deletes { id: value }
     }
 }
 

@@ -78,7 +78,7 @@ proof_text proof.OutOfMemory = task_text.fault_text task.OutOfMemory
 abbrev pub hints_text : HintFault → List ℕ
 hints_text (hints.NotALiteral line) = codes "38 NotALiteral " ++ decimal line
 hints_text (hints.NoSuchVariable line) = codes "39 NoSuchVariable " ++ decimal line
-hints_text (hints.NegativeHint line) = codes "61 NegativeHint " ++ decimal line
+hints_text (hints.ClauseLeftOut line) = codes "61 ClauseLeftOut " ++ decimal line
 hints_text (hints.NoConflict line) = codes "62 NoConflict " ++ decimal line
 hints_text (hints.UnknownHint line) = codes "63 UnknownHint " ++ decimal line
 hints_text (hints.IdOutOfRange line) = codes "64 IdOutOfRange " ++ decimal line

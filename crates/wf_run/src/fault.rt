@@ -176,7 +176,7 @@ fn printed_hints(fault: HintFault) -> Printed
     match fault {
         HintFault::NotALiteral { line } => Printed::Words("38 NotALiteral", Some(line)),
         HintFault::NoSuchVariable { line } => Printed::Words("39 NoSuchVariable", Some(line)),
-        HintFault::NegativeHint { line } => Printed::Words("61 NegativeHint", Some(line)),
+        HintFault::ClauseLeftOut { line } => Printed::Words("61 ClauseLeftOut", Some(line)),
         HintFault::NoConflict { line } => Printed::Words("62 NoConflict", Some(line)),
         HintFault::UnknownHint { line } => Printed::Words("63 UnknownHint", Some(line)),
         HintFault::IdOutOfRange { line } => Printed::Words("64 IdOutOfRange", Some(line)),

@@ -1,11 +1,13 @@
 -- What a checker makes of a proof's steps.
-use Rattle.std.specs.Prelude.{◌≡◌, ◌⊎◌, ◌++◌, ◌+◌, ◌^◌, ℕ, true, false, List, [], ◌∷◌, Bool}
+use Rattle.std.specs.Prelude.{◌≡◌, ◌⊎◌, ◌++◌, ℕ, true, false, List, [], ◌∷◌, Bool}
 use Rattle.wf_clauses.specs.Formula.{Clause}
 use Rattle.wf_rup.specs.Deleted.{Deletes, HasAlike, IsWithout}
 use Rattle.wf_rup.specs.Kept.{AddsAtMost, IsKept, KnowsStill}
 use Rattle.wf_rup.specs.Rat.{IsRedundant, IsUnjustified}
 use Rattle.wf_rup.specs.Seen.{Known}
-use Rattle.wf_drat.specs.Text.{State, Step, Text, at_start, broken_in, deletion, lemma, open_in, state_after, step_of, text_of}
+pub use Rattle.wf_drat.specs.Codes.{most_new_variables}
+pub use Rattle.wf_drat.specs.Text.{proof_start}
+use Rattle.wf_drat.specs.Text.{State, Step, Text, broken_in, deletion, lemma, open_in, state_after, step_of, text_of}
 use Rattle.wf_rup.specs.Unit.{DoesNotFollow}
 use Rattle.wf_rup.specs.declared.proof.ProofFault.{ProofFault}
 use Rattle.wf_rup.specs.declared.proof.ProofFault.TheVariants.{NotALiteral, NoSuchVariable, NotImplied, NoContradiction, Binary, OutOfMemory}
@@ -13,14 +15,6 @@ use Rattle.wf_drat.specs.declared.reader.Turn.{Turn}
 use Rattle.wf_drat.specs.declared.reader.Turn.TheVariants.{GoesOn, BeginsDeletion, Takes, Ends, Stops}
 use Rattle.wf_drat.specs.declared.reader.Flaw.{Flaw}
 use Rattle.wf_drat.specs.declared.reader.Flaw.TheVariants as flaw
-
--- a proof may bring in so many variables beside those of the clauses
-abbrev pub most_new_variables : ℕ
-most_new_variables = 2 ^ 22
-
--- where a proof's text begins, of clauses on the variables from 1 to this number
-abbrev pub proof_start : ℕ → State
-proof_start variables = at_start (variables + most_new_variables)
 
 -- each model of what was known can be changed into one of the lemma too; from now on the lemma is
 -- known beside what was known, and no clause else

@@ -33,6 +33,6 @@ mod whole;
 
 pub use checker::Checker;
 pub use laws::{what_follows_is_entailed, what_is_justified_is_redundant};
-pub use proof::{MOST_NEW_VARIABLES, Proof, ProofFault};
-pub use wf_drat::{Literal, MOST_VARIABLES};
+pub use proof::{Proof, ProofFault};
+pub use wf_drat::{Literal, MOST_NEW_VARIABLES, MOST_VARIABLES};
 pub use whole::check_proof;

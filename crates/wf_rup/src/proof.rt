@@ -14,10 +14,7 @@ ghost use Rattle.wf_drat.specs.declared.reader.Turn.TheVariants.{Ends};
 use crate::checker::Checker;
 use std::alloc::{AllocError, Global};
 use std::marker::Model;
-use wf_drat::{Flaw, Reader, Turn};
-
-/// A proof may bring in so many variables beside those of the clauses.
-pub const MOST_NEW_VARIABLES: u32 = 1 << 22;
+use wf_drat::{Flaw, MOST_NEW_VARIABLES, Reader, Turn};
 
 /// Why a proof is refused. Lines are counted from 1.
 #[derive(Clone, Copy, Debug, PartialEq, Eq)]

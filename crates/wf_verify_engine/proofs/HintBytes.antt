@@ -4,8 +4,8 @@ use Rattle.std.specs.Prelude.{if◌then◌else◌}
 use Rattle.std.proofs.lemmas.Bool.{cases_Bool}
 use Rattle.std.specs.Io.KnownBytes.{IsAtEnd}
 use Rattle.wf_clauses.specs.Formula.{Clause}
-use Rattle.wf_lrat_text.specs.Text.{End, State, Step, Text, addition, at_start, broken_in, deletion, open_in, text_of}
-use Rattle.wf_lrat.specs.Fed.{IsReadTo, IsRefusedFor, Outcome, by_end, by_step, by_steps, by_verdict, closed_in, outcome_at_end, outcome_of, reads, refuses, refutes, unless_refuted}
+use Rattle.wf_lrat_text.specs.Text.{End, State, Step, Text, addition, broken_in, deletion, open_in, text_of}
+use Rattle.wf_lrat.specs.Fed.{IsReadTo, IsRefusedFor, Outcome, by_end, by_step, by_steps, by_verdict, closed_in, outcome_at_end, outcome_of, proof_start, reads, refuses, refutes, unless_refuted}
 use Rattle.wf_lrat.specs.Hints.{verdict_of}
 use Rattle.wf_lrat.specs.Ledger.{Ledger, deleted, learned}
 use Rattle.wf_lrat.specs.declared.verdict.HintVerdict.{HintVerdict}
@@ -44,6 +44,7 @@ by_verdict_known : (v : HintVerdict) (line id : ℕ) (clause : Clause) (l : Ledg
 by_verdict_known verdict.Conflict line id clause l rest known = known (learned id clause l)
 by_verdict_known verdict.NoConflict line id clause l rest known = λ l' e. absurd (refuses-refutes (hints.NoConflict line) l l' e)
 by_verdict_known verdict.UnknownHint line id clause l rest known = λ l' e. absurd (refuses-refutes (hints.UnknownHint line) l l' e)
+by_verdict_known verdict.ClauseLeftOut line id clause l rest known = λ l' e. absurd (refuses-refutes (hints.ClauseLeftOut line) l l' e)
 by_verdict_known verdict.IdOutOfRange line id clause l rest known = λ l' e. absurd (refuses-refutes (hints.IdOutOfRange line) l l' e)
 
 by_step_known : (step : Step) (l : Ledger) (rest : Ledger → Outcome) → ((next : Ledger) → Knows (rest next)) → Knows (by_step step l rest)
@@ -69,18 +70,18 @@ found_stays text other l found e = refuted_outcome other found (steps_known text
 abbrev pub IsFedTo : Ledger → List ℕ → State → Ledger → Type 0
 IsFedTo posed given state left = IsReadTo (outcome_so_far posed given) state left
 
-pub none_fed : (posed : Ledger) (state : State) → state ≡ at_start posed.variables → IsFedTo posed [] state posed
+pub none_fed : (posed : Ledger) (state : State) → state ≡ proof_start posed.variables → IsFedTo posed [] state posed
 none_fed posed state same = elim (cases_Bool posed.is_refuted) [
-  | inl found ↦ inr (ap (λ b. if b then refutes posed else reads (at_start posed.variables) posed) found)
-  | inr unfound ↦ inl (ap (λ b. if b then refutes posed else reads (at_start posed.variables) posed) unfound ∙ ap (λ s. reads s posed) (sym same))
+  | inl found ↦ inr (ap (λ b. if b then refutes posed else reads (proof_start posed.variables) posed) found)
+  | inr unfound ↦ inl (ap (λ b. if b then refutes posed else reads (proof_start posed.variables) posed) unfound ∙ ap (λ s. reads s posed) (sym same))
 ]
 
 module _ (posed : Ledger) (given : List ℕ) (state : State) (left : Ledger) where
   -- what further bytes come to, by where the text is read
   further : (more : List ℕ) → IsFedTo posed given state left → outcome_so_far posed (given ++ more) ≡ outcome_of (text_of state more) left
-  further more (inl e) = outcome-pieces (at_start posed.variables) given more posed ∙ ap (resumed more) e
+  further more (inl e) = outcome-pieces (proof_start posed.variables) given more posed ∙ ap (resumed more) e
   further more (inr e) =
-      outcome-pieces (at_start posed.variables) given more posed ∙ ap (resumed more) e ∙ sym (found_stays (text_of (at_start posed.variables) given) (text_of state more) posed left e)
+      outcome-pieces (proof_start posed.variables) given more posed ∙ ap (resumed more) e ∙ sym (found_stays (text_of (proof_start posed.variables) given) (text_of state more) posed left e)
 
   pub more_fed : (piece : List ℕ) (state' : State) (left' : Ledger) → IsFedTo posed given state left → IsReadTo (outcome_of (text_of state piece) left) state' left' → IsFedTo posed (given ++ piece) state' left'
   more_fed piece state' left' fed (inl e) = inl (further piece fed ∙ e)
@@ -89,7 +90,7 @@ module _ (posed : Ledger) (given : List ℕ) (state : State) (left : Ledger) whe
   -- what the whole comes to where there is nothing more
   whole : IsFedTo posed given state left → whole_outcome posed given ≡ outcome_at_end state left
   whole (inl e) = ap closed e
-  whole (inr e) = ap closed e ∙ sym (ap (closed_in state.line) (found_stays (text_of (at_start posed.variables) given) (text_of state (10 ∷ [])) posed left e))
+  whole (inr e) = ap closed e ∙ sym (ap (closed_in state.line) (found_stays (text_of (proof_start posed.variables) given) (text_of state (10 ∷ [])) posed left e))
 
   pub whole_refuted : (new : Ledger) → IsFedTo posed given state left → outcome_at_end state left ≡ refutes new → IsRefuted (whole_outcome posed given)
   whole_refuted new fed e = (new, whole fed ∙ e)
@@ -100,7 +101,7 @@ module _ (posed : Ledger) (given : List ℕ) (rest : Option (List ℕ)) where
   of_fault : (l : Ledger) (e : HintFault) → IsFaultOfHints posed given rest e l → AreRefusedHints posed given rest (of_hints e)
   of_fault l (hints.NotALiteral line) fault = (l, fault)
   of_fault l (hints.NoSuchVariable line) fault = (l, fault)
-  of_fault l (hints.NegativeHint line) fault = (l, fault)
+  of_fault l (hints.ClauseLeftOut line) fault = (l, fault)
   of_fault l (hints.NoConflict line) fault = (l, fault)
   of_fault l (hints.UnknownHint line) fault = (l, fault)
   of_fault l (hints.IdOutOfRange line) fault = (l, fault)

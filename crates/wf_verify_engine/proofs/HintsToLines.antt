@@ -7,13 +7,13 @@ use Rattle.wf_model.specs.Report.{none}
 use Rattle.wf_formula.specs.Encoding.{question}
 use Rattle.wf_formula.proofs.Tasks.{unsatisfiable_where}
 use Rattle.wf_io.specs.Seen.{Reading}
-use Rattle.wf_lrat_text.specs.Text.{State, at_start, text_of}
-use Rattle.wf_lrat.specs.Fed.{IsReadTo, IsRefusedFor, outcome_at_end, outcome_of, refutes}
+use Rattle.wf_lrat_text.specs.Text.{State, text_of}
+use Rattle.wf_lrat.specs.Fed.{IsReadTo, IsRefusedFor, outcome_at_end, outcome_of, proof_start, refutes}
 use Rattle.wf_lrat.specs.Ledger.{Ledger, ledger_of}
-use Rattle.wf_lrat.specs.Models.{HasNoModel, KeepsModels}
+use Rattle.wf_lrat.specs.Models.{HasNoModel, KeepsSatisfiable}
 use Rattle.wf_lrat.specs.declared.proof.HintFault.{HintFault}
 use Rattle.wf_lrat.specs.declared.proof.HintFault.TheVariants as hints
-use Rattle.wf_lrat.proofs.ModelLemmas.{refutes_formula}
+use Rattle.wf_lrat.proofs.ModelLemmas.{no_model_before, refutes_formula, satisfiable_on, satisfiable_same}
 use Rattle.wf_run.specs.Faults.{of_hints}
 use Rattle.wf_run.specs.Run.{answered}
 use Rattle.wf_run.specs.declared.fault.RunFault.{RunFault}
@@ -30,14 +30,14 @@ use Rattle.wf_verify_engine.proofs.ProofsToLines.{IsGiven, none_given, piece_giv
 pub record AreRead (old new : Reading) (posed left : Ledger) (state : State) (count : ℕ) : Type 0 where
   pub given : List ℕ
   pub source : IsGiven old new given count
-  pub kept : KeepsModels posed left
+  pub kept : KeepsSatisfiable posed left
   pub fed : IsFedTo posed given state left
 
-pub nothing_read : (old : Reading) (posed : Ledger) (state : State) → state ≡ at_start posed.variables → AreRead old old posed posed state 0
+pub nothing_read : (old : Reading) (posed : Ledger) (state : State) → state ≡ proof_start posed.variables → AreRead old old posed posed state 0
 nothing_read old posed state same = record {
   given = [];
   source = record { gave = record { bytes_are = Consumes-nil old.left; taken = omega arith; failures = omega arith }; counted = refl };
-  kept = λ a model. model;
+  kept = satisfiable_same posed;
   fed = none_fed posed state same;
 }
 
@@ -72,11 +72,11 @@ module _ (old new : Reading) (posed : Ledger) (given : List ℕ) (count : ℕ) (
 module _ (old mid new : Reading) (posed left : Ledger) (state : State) (count : ℕ) (before : AreRead old mid posed left state count) where
   -- the piece was taken
   pub piece_read : (left' : Ledger) (state' : State) (n : ℕ) (piece : List ℕ) → n ≡ length piece → Consumes mid.left new.left piece → new.taken ≡ mid.taken + n → new.failures ≡ mid.failures + 0
-      → KeepsModels left left' → IsReadTo (outcome_of (text_of state piece) left) state' left' → AreRead old new posed left' state' (count + n)
+      → KeepsSatisfiable left left' → IsReadTo (outcome_of (text_of state piece) left) state' left' → AreRead old new posed left' state' (count + n)
   piece_read left' state' n piece long bytes taken failures keeps read = record {
     given = before.given ++ piece;
     source = piece_given old mid new before.given count before.source n piece long bytes taken failures;
-    kept = λ a model. keeps a (before.kept a model);
+    kept = satisfiable_on posed left left' before.kept keeps;
     fed = more_fed posed before.given state left piece state' left' before.fed read;
   }
 
@@ -98,7 +98,7 @@ module _ (old mid new : Reading) (posed left : Ledger) (state : State) (count : 
     ended left' few end refuted is =
         let source = at_end in
         let counted = source.counted in
-        (before.given, source.gave, ((λ a model. refuted a (before.kept a model)), whole_refuted posed before.given state left left' before.fed is, end, omega (arith, counted, few)))
+        (before.given, source.gave, (no_model_before posed left before.kept refuted, whole_refuted posed before.given state left left' before.fed is, end, omega (arith, counted, few)))
 
     -- there is none, and the proof is refused
     pub end_refused : {X : Type 0} (holds : X → Type 0) (left' : Ledger) (e : HintFault) (result : Result X RunFault) → count ≤ most_proof_bytes + 1 → IsAtEnd new.left

@@ -6,8 +6,8 @@ use Rattle.wf_model.specs.Task.{Task}
 use Rattle.wf_formula.specs.Encoding.{question}
 use Rattle.wf_io.specs.Seen.{Reading, Writing}
 use Rattle.wf_io.specs.Texts.{Gave}
-use Rattle.wf_lrat_text.specs.Text.{at_start, text_of}
-use Rattle.wf_lrat.specs.Fed.{Outcome, outcome_at_end, outcome_of, reads, refuses, refutes}
+use Rattle.wf_lrat_text.specs.Text.{text_of}
+use Rattle.wf_lrat.specs.Fed.{Outcome, outcome_at_end, outcome_of, proof_start, reads, refuses, refutes}
 use Rattle.wf_lrat.specs.Ledger.{Ledger, ledger_of}
 use Rattle.wf_lrat.specs.declared.proof.HintFault.{HintFault}
 use Rattle.wf_run.specs.Run.{Ran, by_result, failed_reads}
@@ -20,7 +20,7 @@ use Rattle.wf_run.specs.declared.fault.RunFault.TheVariants.{Hints, OutOfMemory,
 
 -- what the first bytes of a proof come to, about these clauses
 abbrev pub outcome_so_far : Ledger → List ℕ → Outcome
-outcome_so_far posed given = outcome_of (text_of (at_start posed.variables) given) posed
+outcome_so_far posed given = outcome_of (text_of (proof_start posed.variables) given) posed
 
 -- what a proof comes to of which this is known before its end
 abbrev pub closed : Outcome → Outcome

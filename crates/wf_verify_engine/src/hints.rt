@@ -91,7 +91,7 @@ fn refute<L: ProofListener, C: Read>(
 /// Reads a source to its end as a proof with hints that what a checker knows has no model, as the
 /// last step of a run over a proof. It is refused where its bytes are no such proof, with its first
 /// fault: `38 NotALiteral`, `39 NoSuchVariable`, `41 NoContradiction`, `42 Binary`,
-/// `61 NegativeHint` to `64 IdOutOfRange`; and `1 TooLong`, `30 Read`.
+/// `61 ClauseLeftOut` to `64 IdOutOfRange`; and `1 TooLong`, `30 Read`.
 pub fn read_hints_from<L: ProofListener, C: Read>(
     alloc: Global,
     source: &mut Source<C>,

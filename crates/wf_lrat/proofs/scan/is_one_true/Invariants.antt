@@ -5,4 +5,4 @@ use Rattle.wf_lrat.specs.Slots.{clause_of}
 use Rattle.wf_lrat.proofs.scan.is_one_true.Given as goal
 
 abbrev pub invariant-literals : goal.invariant-literals
-invariant-literals l = list_any (is_on l.trail) (clause_of l.clause) ≡ list_any (is_on l.trail) (clause_of (drop l.literal-index l.clause))
+invariant-literals l = list_any (is_on (clause_of l.trail)) (clause_of l.clause) ≡ list_any (is_on (clause_of l.trail)) (clause_of (drop l.literal-index l.clause))

@@ -1,13 +1,13 @@
 use Rattle.std.proofs.Common.{◌≡◌, arith, refl, subst, take, drop, length-append, length-drop, length-take, ap, ◌∙◌}
 use Rattle.std.proofs.lemmas.List.{take-append-le}
-use Rattle.wf_lrat_text.specs.Text.{at_start, text_of}
-use Rattle.wf_lrat.specs.Fed.{IsReadTo, IsRefusedFor, outcome_of}
+use Rattle.wf_lrat_text.specs.Text.{text_of}
+use Rattle.wf_lrat.specs.Fed.{IsReadTo, IsRefusedFor, outcome_of, proof_start}
 use Rattle.wf_lrat.specs.Models.{HasNoModel}
 use Rattle.wf_verify_engine.proofs.HintsToLines.{end_refused, ended, nothing_read, piece_read, piece_refused, read_failed}
 use Rattle.wf_verify_engine.proofs.hints.read_pieces.Goals as goal
 
 pub pieces-init : goal.pieces-init
-pieces-init g c = (nothing_read c.args.source.now c.args.checker c.new-proof.result (c.new-proof.ensures ∙ ap at_start c.variables.ensures), omega arith, omega arith, refl, refl)
+pieces-init g c = (nothing_read c.args.source.now c.args.checker c.new-proof.result (c.new-proof.ensures ∙ ap proof_start c.variables.ensures), omega arith, omega arith, refl, refl)
 
 pub returns-in_err-finish-in-Ok-eq0 : goal.returns-in_err-finish-in-Ok-eq0
 returns-in_err-finish-in-Ok-eq0 g c =

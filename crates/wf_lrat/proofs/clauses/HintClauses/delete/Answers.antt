@@ -1,9 +1,23 @@
-use Rattle.std.proofs.Common.{◌<◌, ◌∙◌, ap, arith}
+use Rattle.std.proofs.Common.{◌<◌, ◌-◌, ◌∙◌, ap, arith, subst, sym}
+use Rattle.std.proofs.lemmas.List.Elements.{All-set}
 use Rattle.wf_lrat.specs.Ledger.{emptied}
-use Rattle.wf_lrat.proofs.SlotLemmas.{slots_in-delete}
+use Rattle.wf_lrat.specs.Slots.{AreFirsts, IsPlaced, slots_in}
+use Rattle.wf_lrat.proofs.FirstsLemmas.{firsts_emptied}
+use Rattle.wf_lrat.proofs.SlotLemmas.{placed-nothing, slots_in-delete}
 use Rattle.wf_lrat.proofs.clauses.HintClauses.delete.Goals as goal
 
 pub returns : goal.returns
 returns c =
     let pos : 0 < c.args.id = omega (arith, c.if-id-eq0.false) in
     slots_in-delete c.self.inside.arena.items c.self.inside.places.items c.args.id pos ∙ ap (emptied c.args.id) c.self.view_is
+
+pub invariant_of-self : goal.invariant_of-self
+invariant_of-self c =
+    let pos : 0 < c.args.id = omega (arith, c.if-id-eq0.false) in
+    let arena = c.self.inside.arena.items in
+    let places = c.self.inside.places.items in
+    record {
+      placed = All-set (IsPlaced arena) places (c.args.id - 1) 0 (placed-nothing arena) c.self.invariant.placed;
+      firsts = subst (AreFirsts c.self.inside.firsts) (sym (slots_in-delete arena places c.args.id pos))
+          (firsts_emptied c.self.inside.firsts (slots_in arena places) c.args.id c.self.invariant.firsts);
+    }

@@ -2,6 +2,7 @@ use Rattle.std.proofs.Common.{◌+◌, ◌∙◌, arith, drop, inr, sym}
 use Rattle.wf_lrat_text.specs.Text.{text_of}
 use Rattle.wf_lrat.specs.Fed.{outcome_of}
 use Rattle.wf_lrat.proofs.FedLemmas.{refuted_outcome, to_byte}
+use Rattle.wf_lrat.proofs.ModelLemmas.{satisfiable_on}
 use Rattle.wf_lrat.proofs.proof.HintProof.feed.Goals as goal
 
 pub returns-then-is_refuted-clause-read : goal.returns-then-is_refuted-clause-read
@@ -9,7 +10,7 @@ returns-then-is_refuted-clause-read c =
     inr (refuted_outcome (text_of c.args.self.now c.args.piece.now) c.args.checker.now (sym c.is_refuted.ensures.exact ∙ c.if-is_refuted.true))
 
 pub returns-then-is_refuted-2-clause-kept : goal.returns-then-is_refuted-2-clause-kept
-returns-then-is_refuted-2-clause-kept c = λ a model. c.read.ensures.kept a (c.bytes.invariant.kept a model)
+returns-then-is_refuted-2-clause-kept c = satisfiable_on c.args.checker.now c.bytes.checker c.read.new.checker c.bytes.invariant.kept c.read.ensures.kept
 
 pub returns-then-is_refuted-2-clause-read : goal.returns-then-is_refuted-2-clause-read
 returns-then-is_refuted-2-clause-read c =
@@ -26,7 +27,7 @@ bytes-preserved c =
     let left = drop (c.bytes.at + 1) bytes in
     let within = c.bytes-test.true in
     record {
-      kept = λ a model. c.read.ensures.kept a (c.bytes.invariant.kept a model);
+      kept = satisfiable_on c.args.checker.now c.bytes.checker c.read.new.checker c.bytes.invariant.kept c.read.ensures.kept;
       same = to_byte (outcome_of (text_of c.args.self.now bytes) c.args.checker.now) bytes c.bytes.at c.in-Ok-None.field-0 c.self.inside.reader c.take_word.new.self c.bytes.self c.bytes.checker
           within c.in-Ok-None.field-0-is c.in-Ok-None.ensures c.self.view_is c.bytes.invariant.same
           ∙ c.in-Ok.ensures.read left;
@@ -35,4 +36,4 @@ bytes-preserved c =
     }
 
 pub returns-in-Err-read-clause-kept : goal.returns-in-Err-read-clause-kept
-returns-in-Err-read-clause-kept c = λ a model. c.read.ensures.kept a (c.bytes.invariant.kept a model)
+returns-in-Err-read-clause-kept c = satisfiable_on c.args.checker.now c.bytes.checker c.read.new.checker c.bytes.invariant.kept c.read.ensures.kept

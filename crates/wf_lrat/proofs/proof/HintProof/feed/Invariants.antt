@@ -1,12 +1,12 @@
 use Rattle.std.proofs.Common.{◌≡◌, ◌-◌, ◌≤◌, false, drop, length}
 use Rattle.wf_lrat_text.specs.Text.{text_of}
 use Rattle.wf_lrat.specs.Fed.{outcome_of}
-use Rattle.wf_lrat.specs.Models.{KeepsModels}
+use Rattle.wf_lrat.specs.Models.{KeepsSatisfiable}
 use Rattle.wf_lrat.proofs.proof.HintProof.feed.Given as goal
 
 abbrev pub invariant-bytes : goal.invariant-bytes
 invariant-bytes l = record {
-  kept : KeepsModels l.initial.checker l.checker;
+  kept : KeepsSatisfiable l.initial.checker l.checker;
   same : outcome_of (text_of l.initial.self l.piece) l.initial.checker ≡ outcome_of (text_of l.self (drop l.at l.piece)) l.checker;
   unrefuted : l.checker.is_refuted ≡ false;
   within : l.at ≤ length l.piece;
