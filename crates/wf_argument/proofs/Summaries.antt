@@ -1,4 +1,4 @@
--- The executions of a summary: who takes part, how many have a size, and those of which lines speak.
+-- The executions of a summary: who takes part, how many have a size, and of which lines speak.
 use Rattle.std.proofs.Common.{◌≡◌, ℕ, suc, ◌+◌, ◌-◌, ◌<◌, ◌≤◌, ◌==◌, ◌&&◌, ◌||◌, ◌++◌, not, List, [], ◌∷◌, map, length, get_or, Bool, true, false, cond, Option, Some, append_assoc, eq-eqb, eqb-true, refl, sym, ap, ◌∙◌, arith}
 use Rattle.std.specs.List.{filter, list_any, range_with_len}
 use Rattle.std.specs.Option.{is_some}

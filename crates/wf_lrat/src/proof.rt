@@ -1,11 +1,11 @@
 //! The text form of clausal proofs with hints (LRAT).
 //!
 //! A proof is a list of steps. A clause has an id, its literals in DIMACS, ended by 0, and its
-//! hints, ended by 0: the ids of the clauses from which it follows. If it is a resolution asymmetric
-//! tautology (RAT) that does not follow, groups stand behind those ids: each is the negated id of a
-//! clause, and the hints about that clause. A deletion has an id with no meaning, `d`, and
-//! the ids of the clauses to delete, ended by 0. A step may span lines. Lines that begin with `c`
-//! between two steps are passed over.
+//! hints, ended by 0: the ids of the clauses from which the clause follows. A resolution asymmetric
+//! tautology (RAT) has groups behind these ids: each group is the negated id of a clause, and the
+//! hints about that clause. A deletion has an id with no meaning, `d`, and the ids of the clauses
+//! to delete, ended by 0. A step may span lines. Lines that begin with `c` between two steps are
+//! passed over.
 
 ghost use Rattle.std.specs.Prelude.{◌≡◌, ◌∷◌, List, ℕ, false, IfErr, IfOk};
 ghost use Rattle.wf_lrat.specs.Fed.{IsReadTo, IsRefusedFor, Outcome, by_step, fault_at, outcome_at_end, outcome_of, proof_start, refutes};
