@@ -22,7 +22,7 @@ about t r faultless =
     let n = numbers t r.rounds r faultless.faultless in
     λ i. record { processes = n.processes i; rounds = r.rounds; points = n.points i; executions = n.executions i; body = r.body }
 
-written_as_read : (text : List ℕ) (t : Task) (r : Report) → report_of 2 text ≡ Ok r → IsFaultless t r → text ≡ text_of_report t r.rounds r.body
+pub written_as_read : (text : List ℕ) (t : Task) (r : Report) → report_of 2 text ≡ Ok r → IsFaultless t r → text ≡ text_of_report t r.rounds r.body
 unfolding text_of_report
 written_as_read text t r read faultless = (read_written text r read).0 ∙ ap report_text (about t r faultless)
 
