@@ -24,21 +24,15 @@ static QUESTIONS: [Question; 3] = [
             (b"5 1 0 1 2 0\n6 0 5 3 4 0\n", Ok(())),
             // behind a conflict nothing is looked at
             (b"5 1 0 1 2 -9 8 0\n6 0 5 3 4 0\n", Ok(())),
-            // all clauses with -1 come to a conflict: 3 with 2 and 1, 4 with 1 and 2
-            (
-                b"5 1 0 -3 2 1 -4 1 2 0\n6 0 5 3 4 0\n",
-                Ok(()),
-            ),
-            (
-                b"5 1 0 -3 1 2 -4 1 2 0\n6 0 5 3 4 0\n",
-                Ok(()),
-            ),
-            // the second candidate's group is missing
+            // a group for each clause with -1, in two orders of its hints
+            (b"5 1 0 -3 2 1 -4 1 2 0\n6 0 5 3 4 0\n", Ok(())),
+            (b"5 1 0 -3 1 2 -4 1 2 0\n6 0 5 3 4 0\n", Ok(())),
+            // the group of the second clause with -1 is missing
             (
                 b"5 1 0 -3 1 2 0\n",
                 Err(HintFault::ClauseLeftOut { line: 1 }),
             ),
-            // the first one's is
+            // that of the first one is
             (
                 b"5 1 0 -4 1 2 0\n",
                 Err(HintFault::ClauseLeftOut { line: 1 }),
@@ -49,8 +43,14 @@ static QUESTIONS: [Question; 3] = [
                 Err(HintFault::ClauseLeftOut { line: 2 }),
             ),
             // a group without a conflict
-            (b"5 1 0 -3 -4 1 2 0\n", Err(HintFault::NoConflict { line: 1 })),
-            (b"5 1 0 -3 9 -4 1 2 0\n", Err(HintFault::UnknownHint { line: 1 })),
+            (
+                b"5 1 0 -3 -4 1 2 0\n",
+                Err(HintFault::NoConflict { line: 1 }),
+            ),
+            (
+                b"5 1 0 -3 9 -4 1 2 0\n",
+                Err(HintFault::UnknownHint { line: 1 }),
+            ),
             // groups behind the last clause are not looked at
             (b"5 1 0 -3 1 2 -4 1 2 -77 99 0\n6 0 5 3 4 0\n", Ok(())),
             // no first literal
@@ -91,17 +91,21 @@ static QUESTIONS: [Question; 3] = [
     },
     Question {
         variables: 4,
-        rows: &[&[-1, 2], &[-1, 3], &[-2, 4], &[-3, -4], &[1, -2], &[2, -3]],
+        rows: &[&[-1, 2], &[-1, 3], &[2, 4], &[2, -4], &[3, -2]],
         proofs: &[
-            // each group begins where the first hints leave off: -3 is forced by 6, and not by 1's
+            // what a group forces is gone behind it: here 4, and that 2 is false
             (
-                b"7 1 4 0 3 5 -1 -2 6 0\n",
+                b"6 1 0 -1 3 4 -2 4 0\n",
                 Err(HintFault::NoConflict { line: 1 }),
             ),
-            // what a group forces is gone behind it
             (
-                b"7 1 2 3 0 -1 -2 0\n",
-                Err(HintFault::NoConflict { line: 1 }),
+                b"6 1 0 -1 3 4 -2 5 3 4 0\n",
+                Err(HintFault::NoContradiction { line: 2 }),
+            ),
+            // what hints before the groups force stays: here that 2 is false
+            (
+                b"6 1 3 0 5 -1 3 4 -2 3 4 0\n",
+                Err(HintFault::NoContradiction { line: 2 }),
             ),
         ],
     },
@@ -120,23 +124,24 @@ fn checker_of(
     Ok(checker)
 }
 
-/// What a proof with so many variables comes to that is fed in pieces of this size.
-fn fed(
-    alloc: Global,
-    checker: &mut HintChecker,
-    variables: u32,
-    proof: &[u8],
-    size: usize,
-) -> Answer {
+/// What a proof with so many variables comes to that is fed byte by byte.
+fn fed(alloc: Global, checker: &mut HintChecker, variables: u32, proof: &[u8]) -> Answer {
     let mut reading = HintProof::new(alloc, variables);
-    for piece in proof.chunks(size) {
-        reading.feed(alloc, checker, piece)?;
+    for byte in proof {
+        reading.feed(alloc, checker, &[*byte])?;
     }
     reading.finish(alloc, checker)
 }
 
+/// What a proof with so many variables comes to that is fed as a whole.
+fn fed_whole(alloc: Global, checker: &mut HintChecker, variables: u32, proof: &[u8]) -> Answer {
+    let mut reading = HintProof::new(alloc, variables);
+    reading.feed(alloc, checker, proof)?;
+    reading.finish(alloc, checker)
+}
+
 #[test]
-fn proofs_with_hints_are_judged_in_pieces(rt: HostRuntime) -> Result<(), Fail> {
+fn proofs_with_hints_are_judged_whole_and_in_pieces(rt: HostRuntime) -> Result<(), Fail> {
     let alloc = rt.alloc();
     for Question {
         variables,
@@ -145,11 +150,11 @@ fn proofs_with_hints_are_judged_in_pieces(rt: HostRuntime) -> Result<(), Fail> {
     } in QUESTIONS {
         let formula = clauses(alloc, rows)?;
         for (proof, answer) in proofs {
-            for size in [1, 7, 1000] {
-                let mut checker = checker_of(alloc, variables, &formula)?;
-                let told = fed(alloc, &mut checker, variables, proof, size);
-                assert_eq!(rt; told, *answer, "{proof:?}");
-            }
+            let mut checker = checker_of(alloc, variables, &formula)?;
+            let whole = fed_whole(alloc, &mut checker, variables, proof);
+            let mut checker = checker_of(alloc, variables, &formula)?;
+            let pieces = fed(alloc, &mut checker, variables, proof);
+            assert_eq!(rt; (whole, pieces), (*answer, *answer), "{proof:?}");
         }
     }
     Ok(())
