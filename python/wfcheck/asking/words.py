@@ -85,7 +85,7 @@ def asked(listed: List[str], command: List[str]) -> argparse.Namespace:
     if (found.by_branch or found.split) and first_rounds < last:
         words.error(f"{'cases' if found.split else 'branches'} are those of one number of rounds, and not of FIRST..LAST")
     if found.solver not in (None, SEARCH_ALONE):
-        wrong = wrong_command(SOLVERS.get(found.solver, found.solver))
+        wrong = wrong_command(words_of(found.solver))
         if wrong:
             words.error(f"--solver: {wrong}")
     judge_folder(words, found)
@@ -155,15 +155,32 @@ def wrong_command(solver: str) -> Optional[str]:
     return None if words and shutil.which(words[0]) else f"{words[0] if words else solver!r} is not on the path"
 
 
+def known_name(solver: str) -> Optional[str]:
+    """The name of a known solver, by which alone it is called, or with its path; None of other words."""
+    name = pathlib.PurePath(solver).name
+    return name if name in SOLVERS and (solver == name or shutil.which(solver)) else None
+
+
+def with_path(solver: str, words: str) -> str:
+    """The words of a known solver, called as it is called here."""
+    return shlex.quote(solver) + words.removeprefix(pathlib.PurePath(solver).name)
+
+
+def words_of(solver: str) -> str:
+    """The command of a known solver, or the one that is given."""
+    name = known_name(solver)
+    return with_path(solver, SOLVERS[name]) if name else solver
+
+
 def command(solver: str, limits: Limits, has_hints: bool) -> str:
     """The command of a solver: of Kissat without the option that an older one doesn't know, and of CaDiCaL with hints, if it can write
     them and they are of use."""
-    words = SOLVERS.get(solver, solver)
-    if solver == "kissat":
-        knows = tried(["kissat", "-q", NO_FACTOR], "p cnf 1 1\n1 0\n", limits) == SATISFIABLE
+    name, words = known_name(solver), words_of(solver)
+    if name == "kissat":
+        knows = tried([solver, "-q", NO_FACTOR], "p cnf 1 1\n1 0\n", limits) == SATISFIABLE
         return words if knows else words.replace(f" {NO_FACTOR}", "")
-    if solver == "cadical" and has_hints and tried(["cadical", "-q", "--no-binary", "--lrat"], NO_MODEL, limits) == UNSATISFIABLE:
-        return HINTS
+    if name == "cadical" and has_hints and tried([solver, "-q", "--no-binary", "--lrat"], NO_MODEL, limits) == UNSATISFIABLE:
+        return with_path(solver, HINTS)
     return words
 
 
