@@ -66,7 +66,11 @@ def program() -> pathlib.Path:
 def run(words: Sequence[Word], given: str, seconds: Optional[float] = None) -> Ran:
     """Runs the program over a text, for at most so many seconds if any are given.
 
-    Raises Refused with the number and the words of a refusal, and NoAnswer if the program ends without an answer."""
+    Raises Refused with the number and the words of a refusal, NoAnswer if the program ends without an answer, and ValueError if a number
+    is negative."""
+    for word in words:
+        if isinstance(word, int) and word < 0:
+            raise ValueError(f"{word} is negative: rounds and workers are not")
     try:
         ended = subprocess.run([str(program()), *map(str, words)], input=given.encode(), capture_output=True, timeout=seconds, check=False)
     except subprocess.TimeoutExpired:
