@@ -288,47 +288,36 @@ impl HintReader {
         ensures { IfOk result (λ done. self.new ≡ after turn self.old) }
     {
         match turn {
-            HintTurn::GoesOn { reading } => {
-                self.reading = reading;
-                Ok(())
-            }
+            HintTurn::GoesOn { reading } => self.reading = reading,
             HintTurn::Begins { id } => {
                 self.reading = HintReading::Blank;
                 self.part = HintPart::Literals;
                 self.id = id;
-                Ok(())
             }
             HintTurn::BeginsDeletion => {
                 self.reading = HintReading::Blank;
                 self.part = HintPart::Ids;
-                Ok(())
             }
             HintTurn::Takes { literal } => {
                 self.reading = HintReading::Blank;
                 self.clause.push(literal)?;
-                Ok(())
             }
             HintTurn::EndsClause => {
                 self.reading = HintReading::Blank;
                 self.part = HintPart::Hints;
-                Ok(())
             }
             HintTurn::Names { hint } => {
                 self.reading = HintReading::Blank;
                 self.hints.push(hint)?;
-                Ok(())
             }
             HintTurn::Deletes { id } => {
                 self.reading = HintReading::Blank;
                 self.ids.push(id)?;
-                Ok(())
             }
-            HintTurn::Ends => {
-                self.clear();
-                Ok(())
-            }
-            HintTurn::Stops { flaw: _ } => Ok(()),
+            HintTurn::Ends => self.clear(),
+            HintTurn::Stops { flaw: _ } => {}
         }
+        Ok(())
     }
 
     /// No step is begun.
