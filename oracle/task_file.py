@@ -169,7 +169,8 @@ def judge_numbers(value):
         for v in values:
             if v > LARGEST[value["version"]]:
                 words = f"{where}: the value {v} is above {LARGEST[value['version']]}"
-                raise Refused("6 Value", f"{words}, the largest of version {value['version']}")
+                more = '; version 2 with "first_block": 1 reads up to 255' if value["version"] == 1 else ""
+                raise Refused("6 Value", f"{words}, the largest of version {value['version']}{more}")
     for where, simplex, _ in places(value):
         listed = [p for p, _ in simplex or []]
         if listed != sorted(set(listed)) or any(p >= processes for p in listed):

@@ -2,6 +2,7 @@
 from __future__ import annotations
 
 import concurrent.futures
+import os
 import pathlib
 import re
 import shlex
@@ -21,6 +22,8 @@ FEWER_ROUNDS = "the search after fewer rounds"
 SHARE = 0.1
 CLAUSES = re.compile(rb"^p cnf \d+ (\d+)$", re.M)
 HEAD = 1 << 14
+# so many bytes from the end of what a solver said may have its last line
+TAIL = 200
 # how a search ends that has written too many lines: it has an answer, or met the limit of a file
 TOO_LONG = 1, -signal.SIGXFSZ
 # how many bytes of a part `verify` reads; and who gives an answer that has no lines
@@ -227,8 +230,16 @@ class Attempt:
             self.tell_proof(proof, name, taken)
             return self.of_proof(proof, name, taken)
         self.scope.settle()
-        self.tell(name, "says none, and writes no proof that could be checked" if says else "says nothing")
+        self.tell(name, "says none, and writes no proof that could be checked" if says else f"says nothing{self.last_said()}")
         return None
+
+    def last_said(self) -> str:
+        """The last line that a solver wrote, if it wrote any: most likely it tells a mistake."""
+        with open(self.file("said"), "rb") as said:
+            said.seek(max(0, said.seek(0, os.SEEK_END) - TAIL))
+            lines = said.read().decode(errors="replace").split("\n")
+        told = ["".join(filter(str.isprintable, it)).strip() for it in lines]
+        return next((f", and at last: {it}" for it in reversed(told) if it), "")
 
     def verdict(self) -> Tuple[Optional[str], Optional[pathlib.Path]]:
         """What a solver says, and the file that has its model if it is a map."""
