@@ -3,6 +3,8 @@ pub mod HintLemmas
 pub mod RatLemmas
 pub mod JudgeLemmas
 pub mod SlotLemmas
+pub mod LaidLemmas
+pub mod PackLemmas
 pub mod FirstsLemmas
 pub mod ModelLemmas
 pub mod FedLemmas

@@ -1,5 +1,5 @@
 -- How clauses lie in one list of numbers, and what the code says of them.
-use Rattle.std.specs.Prelude.{◌≡◌, ℕ, suc, ◌+◌, ◌-◌, ◌<◌, ◌≤◌, ◌==◌, true, List, [], ◌∷◌, Option, Some, None, if◌then◌else◌, get_or, length, map}
+use Rattle.std.specs.Prelude.{◌≡◌, ℕ, zero, suc, ◌+◌, ◌-◌, ◌≤◌, ◌==◌, true, List, [], ◌∷◌, Option, Some, None, if◌then◌else◌, get_or, map}
 use Rattle.std.specs.List.{slice_range}
 use Rattle.wf_clauses.specs.Formula.{Clause, Literal}
 use Rattle.wf_drat.specs.Codes.{code_of, literal_of}
@@ -23,9 +23,17 @@ slot_at arena place = if place == 0 then None else Some (clause_of (codes_at are
 abbrev pub slots_in : List ℕ → List ℕ → List (Option Clause)
 slots_in arena places = map (slot_at arena) places
 
--- the clause at a place lies in the list
-abbrev pub IsPlaced : List ℕ → ℕ → Type 0
-IsPlaced arena place = 0 < place → place + get_or arena (place - 1) 0 ≤ length arena
+-- the clauses at these places lie one behind the other, from this word on and before another one
+abbrev pub AreLaid : List ℕ → ℕ → List ℕ → ℕ → Type 0
+AreLaid arena from [] to = from ≤ to
+AreLaid arena from (zero ∷ places) to = AreLaid arena from places to
+AreLaid arena from (suc at ∷ places) to = (from ≤ at) × AreLaid arena (suc at + get_or arena at 0) places to
+
+-- no word lies between them, nor before the first or behind the last
+abbrev pub ArePacked : List ℕ → ℕ → List ℕ → ℕ → Type 0
+ArePacked arena from [] to = from ≡ to
+ArePacked arena from (zero ∷ places) to = ArePacked arena from places to
+ArePacked arena from (suc at ∷ places) to = (from ≡ at) × ArePacked arena (suc at + get_or arena at 0) places to
 
 -- a number of each literal by its code: each clause that has the literal has that number from 0, or
 -- a higher one

@@ -116,7 +116,7 @@ impl HintChecker {
         ensures sound { IfOk result (λ v. v ≡ Conflict → IsRedundant self.old clause.now) }
         ensures kept { KeepsSatisfiable self.old self.new }
     {
-        self.judge(alloc, id, clause, hints)
+        self.judge(id, clause, hints)
     }
 
     /// There are no clauses with these ids from now on. Of an id that no clause has, nothing
@@ -140,7 +140,6 @@ impl HintChecker {
     /// What the hints of a clause come to; if they justify it, it is kept under this id.
     fn judge(
         &mut self,
-        alloc: Global,
         id: u64,
         clause: &[Literal],
         hints: &[Hint],
@@ -152,7 +151,7 @@ impl HintChecker {
         if !self.is_next_id(id) {
             return Ok(HintVerdict::IdOutOfRange);
         }
-        self.clauses.compact_in_time(alloc)?;
+        self.clauses.compact_in_time();
         put_codes(&mut self.codes, clause)?;
         let verdict = verdict_by(&self.clauses, &mut self.trail, &self.codes, hints)?;
         if !matches!(verdict, HintVerdict::Conflict) {

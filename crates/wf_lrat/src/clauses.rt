@@ -1,11 +1,12 @@
 //! The clauses by their ids.
 
-ghost use Rattle.std.specs.Prelude.{◌≡◌, ℕ, false, ◌<◌, ◌-◌, ◌^◌, ◌∷◌, ◌++◌, [], Some, None, IfOk, OnOk, MatchOption, get_or, is_ok, if◌then◌else◌, length, replicate};
+ghost use Rattle.std.specs.Prelude.{◌≡◌, ℕ, false, ◌<◌, ◌-◌, ◌^◌, ◌∷◌, ◌++◌, [], Some, None, IfOk, MatchOption, get_or, is_ok, if◌then◌else◌, length, replicate};
 ghost use Rattle.wf_drat.specs.Codes.{literal_of};
 ghost use Rattle.wf_lrat.specs.Hints.{has_literal};
 ghost use Rattle.wf_lrat.specs.Ledger.{emptied, slot_of};
 ghost use Rattle.wf_lrat.specs.Slots.{clause_of};
 
+use crate::packing::pack;
 use crate::scan::has_code;
 use std::alloc::{AllocError, Global};
 use std::marker::Model;
@@ -37,16 +38,16 @@ pub(crate) struct HintClauses {
 }
 
 impl Model for HintClauses {
-    ghost use Rattle.std.specs.Prelude.{List, Option, All};
+    ghost use Rattle.std.specs.Prelude.{List, Option, length};
     ghost use Rattle.wf_clauses.specs.Formula.{Clause};
-    ghost use Rattle.wf_lrat.specs.Slots.{AreFirsts, IsPlaced, slots_in};
+    ghost use Rattle.wf_lrat.specs.Slots.{AreFirsts, AreLaid, slots_in};
 
     ghost Value = { List (Option Clause) };
 
     ghost view = { λ c. slots_in c.arena.items c.places.items };
 
     ghost invariant = { λ c. record {
-      placed : All (IsPlaced c.arena.items) c.places.items;
+      laid : AreLaid c.arena.items 0 c.places.items (length c.arena.items);
       firsts : AreFirsts c.firsts (slots_in c.arena.items c.places.items);
     } };
 }
@@ -56,7 +57,12 @@ impl HintClauses {
     pub(crate) fn new(alloc: Global, codes: usize) -> Result<HintClauses, AllocError>
         ensures { IfOk result (λ clauses. clauses ≡ []) }
     {
-        HintClauses::with_room(alloc, codes, 0, 0)
+        Ok(HintClauses {
+            arena: Vec::new(alloc),
+            places: Vec::new(alloc),
+            firsts: Firsts::new(alloc, codes)?,
+            dead: 0,
+        })
     }
 
     /// The largest id that there was.
@@ -123,14 +129,6 @@ impl HintClauses {
         Ok(())
     }
 
-    /// There is no clause under the next id.
-    fn skip(&mut self) -> Result<(), AllocError>
-        ensures { self.new ≡ (if is_ok result then self.old ++ None ∷ [] else self.old) }
-    {
-        self.places.push(0)?;
-        Ok(())
-    }
-
     /// There is no clause with this id from now on.
     pub(crate) fn delete(&mut self, id: u64)
         ensures { self.new ≡ emptied id self.old }
@@ -155,63 +153,21 @@ impl HintClauses {
         self.arena[place - 1] as usize + 1
     }
 
-    /// Gives back memory where most of it is of clauses that were deleted.
+    /// Takes out the words of clauses that were deleted, where most words are of such clauses.
     #[inline]
-    pub(crate) fn compact_in_time(&mut self, alloc: Global) -> Result<(), AllocError>
+    pub(crate) fn compact_in_time(&mut self)
         ensures { self.new ≡ self.old }
     {
         if self.dead > FEW && self.dead > self.arena.len() / 2 {
-            self.compact(alloc)?;
+            self.compact();
         }
-        Ok(())
     }
 
-    /// Gives back the memory of clauses that were deleted.
-    fn compact(&mut self, alloc: Global) -> Result<(), AllocError>
+    /// Takes out the words of clauses that were deleted.
+    fn compact(&mut self)
         ensures { self.new ≡ self.old }
     {
-        let words = self.arena.len().saturating_sub(self.dead);
-        let mut kept = HintClauses::with_room(alloc, 0, words, self.places.len())?;
-        'ids: for number in 0..self.len() {
-            kept.copy(self, number)?;
-        }
-        *self = kept;
-        Ok(())
-    }
-
-    /// No clause, with room for the literals with so many codes, and for so many words and ids.
-    fn with_room(
-        alloc: Global,
-        codes: usize,
-        words: usize,
-        ids: usize,
-    ) -> Result<HintClauses, AllocError>
-        ensures { IfOk result (λ clauses. clauses ≡ []) }
-    {
-        Ok(HintClauses {
-            arena: Vec::with_capacity(alloc, words)?,
-            places: Vec::with_capacity(alloc, ids)?,
-            firsts: Firsts::new(alloc, codes)?,
-            dead: 0,
-        })
-    }
-
-    /// Keeps what others have under the next id, which is this number from 0.
-    fn copy(&mut self, others: &HintClauses, number: usize) -> Result<(), AllocError>
-        requires next { length self.old ≡ number }
-        requires within { number < length others.now }
-        requires small { number < 2 ^ 63 }
-        ensures { OnOk result (self.new ≡ self.old ++ get_or others.now number None ∷ []) }
-    {
-        match others.literals(number as u64 + 1) {
-            Some(clause) => {
-                self.put(number + 1, clause)?;
-                Ok(())
-            }
-            None => {
-                self.skip()?;
-                Ok(())
-            }
-        }
+        pack(&mut self.arena, &mut self.places);
+        self.dead = 0;
     }
 }

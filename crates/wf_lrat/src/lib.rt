@@ -19,6 +19,7 @@ mod checker;
 mod clauses;
 mod follow;
 mod groups;
+mod packing;
 mod proof;
 mod rat;
 mod scan;

@@ -1,9 +1,9 @@
-use Rattle.std.proofs.Common.{◌<◌, ◌-◌, ◌∙◌, ap, arith, subst, sym}
-use Rattle.std.proofs.lemmas.List.Elements.{All-set}
+use Rattle.std.proofs.Common.{◌<◌, ◌-◌, ◌∙◌, ap, arith, length, subst, sym}
 use Rattle.wf_lrat.specs.Ledger.{emptied}
-use Rattle.wf_lrat.specs.Slots.{AreFirsts, IsPlaced, slots_in}
+use Rattle.wf_lrat.specs.Slots.{AreFirsts, slots_in}
 use Rattle.wf_lrat.proofs.FirstsLemmas.{firsts_emptied}
-use Rattle.wf_lrat.proofs.SlotLemmas.{placed-nothing, slots_in-delete}
+use Rattle.wf_lrat.proofs.LaidLemmas.{laid-set}
+use Rattle.wf_lrat.proofs.SlotLemmas.{slots_in-delete}
 use Rattle.wf_lrat.proofs.clauses.HintClauses.delete.Goals as goal
 
 pub returns : goal.returns
@@ -17,7 +17,7 @@ invariant_of-self c =
     let arena = c.self.inside.arena.items in
     let places = c.self.inside.places.items in
     record {
-      placed = All-set (IsPlaced arena) places (c.args.id - 1) 0 (placed-nothing arena) c.self.invariant.placed;
+      laid = laid-set arena 0 places (length arena) (c.args.id - 1) c.self.invariant.laid;
       firsts = subst (AreFirsts c.self.inside.firsts) (sym (slots_in-delete arena places c.args.id pos))
           (firsts_emptied c.self.inside.firsts (slots_in arena places) c.args.id c.self.invariant.firsts);
     }
