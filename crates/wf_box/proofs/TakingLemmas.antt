@@ -19,8 +19,7 @@ use Rattle.wf_lines.specs.Lines.{line_of}
 use Rattle.wf_lines.specs.declared.line.Line.{Line}
 use Rattle.wf_lines.specs.declared.line.Line.TheVariants as line
 use Rattle.wf_network.specs.Revising.{wide_set}
-use Rattle.wf_box.specs.Steps.{reached, removals, loss}
-use Rattle.wf_box.specs.declared.taking.Occurrence.{Occurrence}
+use Rattle.wf_box.specs.Steps.{reached, loss}
 use Rattle.wf_set.proofs.Lemmas.{set_at}
 
 -- the box without a candidate is that of the sets with one set changed
@@ -92,12 +91,6 @@ set_then words more last v first then = then ∙ ap (λ ws. slice_set ws v (get_
 
 -- ---- values below 64
 
-pub no_part : (part : ℕ) → true ≡ (length (part_values part) == 0) → part_values part ≡ []
-no_part part is = nil_from_length (part_values part) (eqb-true _ 0 (sym is))
-
-pub some_part : (part : ℕ) → false ≡ (length (part_values part) == 0) → part_values part ≡ [] → ⊥
-some_part part is none = false≢true (is ∙ eq-eqb _ 0 (ap length none))
-
 -- those below 64 that a set has are those that the set has
 small_met : (xs ys : List ℕ) → AllByRecursion (λ y. y < 64) ys → filter (has (filter (λ v. nat_lt v 64) xs)) ys ≡ filter (has xs) ys
 small_met xs [] small = refl
@@ -118,6 +111,3 @@ pub gone_part : (values first gone : ℕ) (here : List ℕ) → part_values firs
 gone_part values first gone here is met =
     values_of_part gone ∙ met ∙ ap (λ xs. filter (has xs) (part_values values)) is ∙ small_met (values_in here) (part_values values) (all_small (part_values values) (values_small values))
     ∙ ap (filter (has (values_in here))) (sym (values_of_part values))
-
-pub named_part : (at : Occurrence) (lines more : List Line) (gone : ℕ) → more ≡ lines ++ removals at (part_values gone) → more ≡ lines ++ removals at (values_in (wide_set gone))
-named_part at lines more gone is = is ∙ ap (λ vs. lines ++ removals at vs) (sym (values_of_part gone))

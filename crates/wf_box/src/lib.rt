@@ -12,8 +12,10 @@
 
 mod answers;
 mod boxed;
+mod candidates;
 mod closing;
 mod kept;
+mod packed;
 mod revision;
 mod snapshot;
 mod taking;

@@ -1,24 +1,23 @@
 //! Taking out of one execution what its rule does not support: four ways, by how large the
 //! candidates are, since smaller ones are packed and their answers lie nearer each other.
 
-ghost use Rattle.std.specs.Prelude.{◌≡◌, ◌<◌, ◌≤◌, ◌*◌, ◌⊎◌, All, length};
-ghost use Rattle.std.specs.Bool.{OnTrue};
+ghost use Rattle.std.specs.Prelude.{◌≡◌, ◌<◌, ◌*◌, ◌⊎◌, true, length};
 ghost use Rattle.wf_network.specs.Marks.{KeepsBitsBut, bit_of};
 ghost use Rattle.wf_lane.specs.Table.{HasSupported};
 ghost use Rattle.wf_network.specs.Problems.{rule_in, rule_number};
-ghost use Rattle.wf_network.specs.Revising.{AreSame, found_at, found_in, nibbles_in, parts_in, wide_set, widened};
+ghost use Rattle.wf_network.specs.Revising.{found_in, widened};
 ghost use Rattle.wf_box.specs.Working.{IsRevising, IsTakingAt, Revises, TakesAt};
 
-use crate::taking::{Occurrence, take_each, take_each_part};
+use crate::candidates::{Candidates, ValueSet};
+use crate::packed::Packed;
+use crate::taking::{Occurrence, take_each};
 use crate::workspace::Workspace;
 use wf_lines::Lines;
 use wf_network::{
-    Marks, Network, PackedExecution, candidates_at, in_nibbles, in_word, narrowed,
-    supported_narrow, supported_nibbles, supported_sets, supported_word, unpacked,
-    unpacked_nibbles,
+    Marks, Network, candidates_at, in_nibbles, in_word, narrowed, supported_narrow, supported_sets,
 };
-use wf_set::part::{self, Part};
-use wf_set::{Mask, difference, is_empty};
+use wf_set::Mask;
+use wf_set::part::Part;
 
 /// An execution and its rule, each by its number.
 #[derive(Clone, Copy, Debug)]
@@ -32,13 +31,6 @@ struct ExecutionRule {
 struct Judgement<T> {
     found: T,
     supported: T,
-}
-
-/// What is supported in an execution's first places, so many of them.
-#[derive(Clone, Copy, Debug)]
-struct SupportedSets {
-    places: u8,
-    sets: [Mask; 4],
 }
 
 /// Takes out what is not supported in an execution, judged by its points'
@@ -59,112 +51,62 @@ pub(crate) fn revise(
     let rule = execution.simplex;
     let at = ExecutionRule { number, rule };
     match in_nibbles(found) {
-        Some(nibbles) => revise_nibbles(at, nibbles, network, workspace, lines),
+        Some(nibbles) => revise_packed(at, nibbles, network, workspace, lines),
         None => match in_word(found) {
-            Some(word) => revise_word(at, word, network, workspace, lines),
+            Some(word) => revise_packed(at, word, network, workspace, lines),
             None => revise_large(number, network, workspace, lines),
         },
     }
 }
 
-/// Takes out of an execution what its rule does not support, if all candidates are below 4. The
-/// rule is the one of this number, and the candidates are packed.
-fn revise_nibbles(
+/// Takes out of an execution what its rule does not support, if all candidates are below 4 or below
+/// 16, and packed. The rule is the one of this number.
+fn revise_packed<P: Packed>(
     at: ExecutionRule,
-    nibbles: u16,
+    found: P,
     network: &Network,
     workspace: &mut Workspace,
     lines: &mut Lines,
 ) -> Option<u32>
     requires revising { IsRevising network.now at.number lines.old workspace.old }
     requires rule { at.rule ≡ rule_number network.now at.number }
-    requires found { widened (nibbles_in nibbles)
+    requires found { widened (P.parts found)
         ≡ found_in network.now at.number workspace.old.tracked.words.items }
     ensures { Revises network.now at.number
         lines.old workspace.old lines.new workspace.new result }
 {
-    let supported = supported_nibbles(at.rule, nibbles, network, &mut workspace.memo);
-    if supported == nibbles {
+    let supported = found.supported(at.rule, network, &mut workspace.memo);
+    if supported == found {
         // most executions lose nothing
         return None;
     }
-    let found = nibbles;
     let judged = Judgement { found, supported };
-    take_nibbles(at.number, judged, network, workspace, lines)
+    take_packed(at.number, judged, network, workspace, lines)
 }
 
-/// Takes out of an execution the candidates below 4 that are not supported. This is no part of the
+/// Takes out of an execution the packed candidates that are not supported. This is no part of the
 /// loop over executions, which needs the processor's registers.
 #[inline(never)]
-fn take_nibbles(
+fn take_packed<P: Packed>(
     number: u32,
-    judged: Judgement<u16>,
+    judged: Judgement<P>,
     network: &Network,
     workspace: &mut Workspace,
     lines: &mut Lines,
 ) -> Option<u32>
     requires revising { IsRevising network.now number lines.old workspace.old }
-    requires found { widened (nibbles_in judged.found)
+    requires found { widened (P.parts judged.found)
         ≡ found_in network.now number workspace.old.tracked.words.items }
-    requires supported { HasSupported (widened (nibbles_in judged.supported))
-        (rule_in network.now number).table (widened (nibbles_in judged.found)) }
+    requires supported { HasSupported (widened (P.parts judged.supported))
+        (rule_in network.now number).table (widened (P.parts judged.found)) }
     ensures { Revises network.now number
         lines.old workspace.old lines.new workspace.new result }
 {
     let judged = Judgement {
-        found: unpacked_nibbles(judged.found),
-        supported: unpacked_nibbles(judged.supported),
+        found: judged.found.unpacked(),
+        supported: judged.supported.unpacked(),
     };
-    take_parts(number, judged, network, workspace, lines)
-}
-
-/// Takes out of an execution what its rule does not support, if all candidates are below 16. The
-/// rule is the one of this number, and the candidates are packed.
-fn revise_word(
-    at: ExecutionRule,
-    word: u64,
-    network: &Network,
-    workspace: &mut Workspace,
-    lines: &mut Lines,
-) -> Option<u32>
-    requires revising { IsRevising network.now at.number lines.old workspace.old }
-    requires rule { at.rule ≡ rule_number network.now at.number }
-    requires found { widened (parts_in word)
-        ≡ found_in network.now at.number workspace.old.tracked.words.items }
-    ensures { Revises network.now at.number
-        lines.old workspace.old lines.new workspace.new result }
-{
-    let supported = supported_word(at.rule, word, network, &mut workspace.memo);
-    if supported == word {
-        return None;
-    }
-    let found = word;
-    let judged = Judgement { found, supported };
-    take_word(at.number, judged, network, workspace, lines)
-}
-
-/// Takes out of an execution the candidates below 16 that are not supported.
-#[inline(never)]
-fn take_word(
-    number: u32,
-    judged: Judgement<u64>,
-    network: &Network,
-    workspace: &mut Workspace,
-    lines: &mut Lines,
-) -> Option<u32>
-    requires revising { IsRevising network.now number lines.old workspace.old }
-    requires found { widened (parts_in judged.found)
-        ≡ found_in network.now number workspace.old.tracked.words.items }
-    requires supported { HasSupported (widened (parts_in judged.supported))
-        (rule_in network.now number).table (widened (parts_in judged.found)) }
-    ensures { Revises network.now number
-        lines.old workspace.old lines.new workspace.new result }
-{
-    let judged = Judgement {
-        found: unpacked(judged.found),
-        supported: unpacked(judged.supported),
-    };
-    take_parts(number, judged, network, workspace, lines)
+    take_lost(number, judged, network, workspace, lines)
 }
 
 /// Takes out of an execution what its rule does not support, if some candidate is 16 or more.
@@ -209,51 +151,7 @@ fn revise_parts(
         return None;
     };
     let judged = Judgement { found, supported };
-    take_parts(at.number, judged, network, workspace, lines)
-}
-
-/// Takes out of an execution the candidates below 64 that are not supported, place by place, and
-/// takes its mark away if nothing else can be lost there. The point that this empties, if there is
-/// one.
-#[inline(always)] // a copy for each caller, which knows more of the parts
-fn take_parts(
-    number: u32,
-    judged: Judgement<[Part; 4]>,
-    network: &Network,
-    workspace: &mut Workspace,
-    lines: &mut Lines,
-) -> Option<u32>
-    requires revising { IsRevising network.now number lines.old workspace.old }
-    requires found { widened judged.found
-        ≡ found_in network.now number workspace.old.tracked.words.items }
-    requires long { length judged.found ≡ 4 }
-    requires supported_long { length judged.supported ≡ 4 }
-    requires supported { HasSupported (widened judged.supported)
-        (rule_in network.now number).table (widened judged.found) }
-    ensures { Revises network.now number
-        lines.old workspace.old lines.new workspace.new result }
-{
-    let Judgement { found, supported } = judged;
-    let execution = network.execution(number as usize);
-    let rule = &network.rules[execution.simplex as usize];
-    let processes = rule.places();
-    'places: for place in 0..processes {
-        let lost = part::difference(found[place as usize], supported[place as usize]);
-        if part::is_empty(lost) {
-            continue;
-        }
-        let at = Occurrence {
-            execution: number,
-            process: rule.process_at(place),
-            point: execution.points[place as usize],
-        };
-        if take_part(lost, at, network, workspace, lines) {
-            return Some(at.point);
-        }
-    }
-    let sets = &workspace.tracked.words;
-    unmark_parts(number, execution, sets, supported, &mut workspace.marks);
-    None
+    take_lost(at.number, judged, network, workspace, lines)
 }
 
 /// Takes out of an execution what its rule does not support, if some candidate is 64 or more.
@@ -273,23 +171,26 @@ fn revise_sets(
 {
     let supported = supported_sets(at.rule, found, network, &mut workspace.memo);
     let judged = Judgement { found, supported };
-    take_sets(at.number, judged, network, workspace, lines)
+    take_lost(at.number, judged, network, workspace, lines)
 }
 
 /// Takes out of an execution the candidates that are not supported, place by place, and takes its
-/// mark away if nothing else can be lost there. The point that this empties, if there is one.
-fn take_sets(
+/// mark away if each place has just what was supported there: then nothing else can be lost, since
+/// what is left is supported by what is left. The point that this empties, if there is one.
+#[inline(always)] // a copy for each caller, which knows more of the candidates
+fn take_lost<C: Candidates>(
     number: u32,
-    judged: Judgement<[Mask; 4]>,
+    judged: Judgement<C>,
     network: &Network,
     workspace: &mut Workspace,
     lines: &mut Lines,
 ) -> Option<u32>
     requires revising { IsRevising network.now number lines.old workspace.old }
-    requires found { judged.found ≡ found_in network.now number workspace.old.tracked.words.items }
-    requires long { length judged.found ≡ 4 }
-    requires supported { HasSupported judged.supported
-        (rule_in network.now number).table judged.found }
+    requires found { C.at_places judged.found
+        ≡ found_in network.now number workspace.old.tracked.words.items }
+    requires long { length (C.at_places judged.found) ≡ 4 }
+    requires supported { HasSupported (C.at_places judged.supported)
+        (rule_in network.now number).table (C.at_places judged.found) }
     ensures { Revises network.now number
         lines.old workspace.old lines.new workspace.new result }
 {
@@ -298,8 +199,8 @@ fn take_sets(
     let rule = &network.rules[execution.simplex as usize];
     let processes = rule.places();
     'places: for place in 0..processes {
-        let lost = difference(found[place as usize], supported[place as usize]);
-        if is_empty(lost) {
+        let lost = found.lost(&supported, place);
+        if lost.is_empty() {
             continue;
         }
         let at = Occurrence {
@@ -311,135 +212,41 @@ fn take_sets(
             return Some(at.point);
         }
     }
-    let supported = SupportedSets {
-        places: processes,
-        sets: supported,
-    };
-    let sets = &workspace.tracked.words;
-    unmark(number, execution, sets, supported, &mut workspace.marks);
+    let all_left = supported.are_left(execution, &workspace.tracked.words, processes);
+    unmark(number, all_left, &mut workspace.marks);
     None
 }
 
-/// Takes the mark of an execution away where each of its places has just what was supported there:
-/// what is left is supported by what is left.
-fn unmark(
-    number: u32,
-    execution: PackedExecution,
-    sets: &[Mask],
-    supported: SupportedSets,
-    marks: &mut Marks,
-)
-    requires number { number < 64 * length marks.old.words.items }
-    requires places { supported.places ≤ 4 }
-    requires long { length execution.points ≡ 4 }
-    requires within { All (λ v. v < length sets.now) execution.points }
+/// Takes the mark of an execution away, if all that was supported there is left and nothing else.
+fn unmark(number: u32, all_left: bool, marks: &mut Marks)
+    requires { number < 64 * length marks.old.words.items }
     ensures others { KeepsBitsBut marks.old.words.items marks.new.words.items number }
-    ensures same { bit_of marks.new.words.items number ≡ 0
-        → AreSame supported.places (found_at execution sets.now) supported.sets
-        ⊎ (bit_of marks.old.words.items number ≡ 0) }
+    ensures left { bit_of marks.new.words.items number ≡ 0
+        → (all_left ≡ true) ⊎ (bit_of marks.old.words.items number ≡ 0) }
     ensures long { length marks.new.words.items ≡ length marks.old.words.items }
 {
-    if are_left(execution, sets, supported) {
+    if all_left {
         marks.take(number);
     }
 }
 
-/// Takes the mark of an execution away if each of its places has just what was supported there, all
-/// of it below 64. Past the last place stands the first place's point again, and what was supported
-/// there.
-fn unmark_parts(
-    number: u32,
-    execution: PackedExecution,
-    sets: &[Mask],
-    supported: [Part; 4],
-    marks: &mut Marks,
-)
-    requires number { number < 64 * length marks.old.words.items }
-    requires long { length execution.points ≡ 4 }
-    requires supported_long { length supported ≡ 4 }
-    requires within { All (λ v. v < length sets.now) execution.points }
-    ensures others { KeepsBitsBut marks.old.words.items marks.new.words.items number }
-    ensures same { bit_of marks.new.words.items number ≡ 0
-        → (found_at execution sets.now ≡ widened supported)
-        ⊎ (bit_of marks.old.words.items number ≡ 0) }
-    ensures long { length marks.new.words.items ≡ length marks.old.words.items }
-{
-    if are_parts_left(execution, sets, supported) {
-        marks.take(number);
-    }
-}
-
-/// Whether the first points of an execution have just the sets that were supported there.
-fn are_left(execution: PackedExecution, sets: &[Mask], supported: SupportedSets) -> bool
-    requires count { supported.places ≤ 4 }
-    requires long { length execution.points ≡ 4 }
-    requires within { All (λ v. v < length sets.now) execution.points }
-    ensures { OnTrue result
-        (AreSame supported.places (found_at execution sets.now) supported.sets) }
-{
-    for place in 0..supported.places as usize {
-        let left = sets[execution.points[place] as usize];
-        if left != supported.sets[place] {
-            return false;
-        }
-    }
-    true
-}
-
-/// Whether the points of an execution have just the values of these parts.
-fn are_parts_left(execution: PackedExecution, sets: &[Mask], supported: [Part; 4]) -> bool
-    requires long { length execution.points ≡ 4 }
-    requires supported_long { length supported ≡ 4 }
-    requires within { All (λ v. v < length sets.now) execution.points }
-    ensures { OnTrue result (found_at execution sets.now ≡ widened supported) }
-{
-    match narrowed(candidates_at(execution, sets)) {
-        Some(left) => left == supported,
-        None => false,
-    }
-}
-
-/// Takes those of the values out that are still there, ascending, with their
-/// lines, and marks the executions of the point where there are any. Where
-/// this empties the point, that ends it, and the answer is true.
-fn take_place(
-    lost: Mask,
+/// Takes those of the values out that are still there, ascending, with their lines, and marks the
+/// executions of the point if there are any. If this empties the point, that ends it, and the
+/// answer is true.
+#[inline(always)] // so that the place is not put together in memory
+fn take_place<V: ValueSet>(
+    lost: V,
     place: Occurrence,
     network: &Network,
     workspace: &mut Workspace,
     lines: &mut Lines,
 ) -> bool
     requires { IsTakingAt network.now place lines.old workspace.old }
-    ensures { TakesAt network.now lost place
+    ensures { TakesAt network.now (V.wide lost) place
         lines.old workspace.old lines.new workspace.new result }
 {
     let before = workspace.tracked.words[place.point as usize];
     let emptied = take_each(lost, place, &mut workspace.tracked.words, lines);
-    if workspace.tracked.words[place.point as usize] == before {
-        return emptied;
-    }
-    workspace.tracked.note(place.point, before);
-    workspace.marks.mark_each(network.users_of(place.point));
-    emptied
-}
-
-/// Takes those of the values, all below 64, out that are still there, ascending, with their lines,
-/// and marks the executions of the point if there are any. If this empties the point, that ends it,
-/// and the answer is true.
-#[inline(always)] // so that the place is not put together in memory
-fn take_part(
-    lost: Part,
-    place: Occurrence,
-    network: &Network,
-    workspace: &mut Workspace,
-    lines: &mut Lines,
-) -> bool
-    requires { IsTakingAt network.now place lines.old workspace.old }
-    ensures { TakesAt network.now (wide_set lost) place
-        lines.old workspace.old lines.new workspace.new result }
-{
-    let before = workspace.tracked.words[place.point as usize];
-    let emptied = take_each_part(lost, place, &mut workspace.tracked.words, lines);
     if workspace.tracked.words[place.point as usize] == before {
         return emptied;
     }

@@ -5,15 +5,13 @@ ghost use Rattle.std.specs.Bool.{OnFalse, OnTrue};
 ghost use Rattle.wf_model.specs.Lists.{has};
 ghost use Rattle.std.specs.List.{slice_set};
 ghost use Rattle.wf_model.specs.Box.{candidates, count};
-ghost use Rattle.wf_set.specs.Parts.{part_values};
 ghost use Rattle.wf_set.specs.Sets.{box_of, values_in};
-ghost use Rattle.wf_network.specs.Revising.{wide_set};
 ghost use Rattle.wf_box.specs.Closes.{EndsAt};
 ghost use Rattle.wf_box.specs.Steps.{HasRoom, IsSpent, NamesAt, TakesEach, TakesOut, removals};
 
+use crate::candidates::ValueSet;
 use wf_lines::{Line, Lines};
-use wf_set::part::{self, Part};
-use wf_set::{Mask, difference, first_part, holds, is_empty, meet, split_first, without};
+use wf_set::{Mask, difference, holds, is_empty, split_first, without};
 
 /// A process of an execution, and its point.
 #[derive(Clone, Copy, Debug)]
@@ -25,45 +23,16 @@ pub(crate) struct Occurrence {
 
 /// Takes those of the values out that are still there, ascending, with their lines. Where this
 /// empties the point, that ends it, and the answer is true.
-pub(crate) fn take_each(values: Mask, at: Occurrence, sets: &mut [Mask], lines: &mut Lines) -> bool
-    requires point { at.point < length sets.old }
-    requires room { HasRoom lines.old sets.old }
-    ensures step { TakesEach values at lines.old sets.old lines.new sets.new result }
-    ensures long { length sets.new ≡ length sets.old }
-    ensures others { sets.new ≡ slice_set sets.old at.point (get_or sets.new at.point []) }
-    ensures fewer { count (box_of sets.new) ≤ count (box_of sets.old) }
-    ensures same { count (box_of sets.new) ≡ count (box_of sets.old) → sets.new ≡ sets.old }
-    ensures emptied { OnTrue result (EndsAt lines.new.items (box_of sets.new) at.point) }
-    ensures named { NamesAt at lines.old sets.old lines.new sets.new }
-    ensures room { OnFalse result (HasRoom lines.new sets.new) }
-    ensures spent { OnFalse result (IsSpent lines.old sets.old lines.new sets.new) }
-{
-    let set = sets[at.point as usize];
-    let left = difference(set, values);
-    if is_empty(left) {
-        return take_in_turn(values, at, sets, lines);
-    }
-    let gone = meet(values, set);
-    if is_empty(gone) {
-        return false;
-    }
-    name_each(gone, at, lines);
-    sets[at.point as usize] = left;
-    false
-}
-
-/// Takes those of the values, all below 64, out that are still there, ascending, with their lines.
-/// If this empties the point, that ends it, and the answer is true.
 #[inline(always)] // so that the place is not put together in memory
-pub(crate) fn take_each_part(
-    values: Part,
+pub(crate) fn take_each<V: ValueSet>(
+    values: V,
     at: Occurrence,
     sets: &mut [Mask],
     lines: &mut Lines,
 ) -> bool
     requires point { at.point < length sets.old }
     requires room { HasRoom lines.old sets.old }
-    ensures step { TakesEach (wide_set values) at lines.old sets.old lines.new sets.new result }
+    ensures step { TakesEach (V.wide values) at lines.old sets.old lines.new sets.new result }
     ensures long { length sets.new ≡ length sets.old }
     ensures others { sets.new ≡ slice_set sets.old at.point (get_or sets.new at.point []) }
     ensures fewer { count (box_of sets.new) ≤ count (box_of sets.old) }
@@ -75,51 +44,29 @@ pub(crate) fn take_each_part(
 {
     let point = at.point as usize;
     let set = sets[point];
-    let left = difference(set, [values, 0, 0, 0]);
+    let left = difference(set, values.widened());
     if is_empty(left) {
-        return take_in_turn([values, 0, 0, 0], at, sets, lines);
+        return take_in_turn(values.widened(), at, sets, lines);
     }
-    let gone = part::meet(values, first_part(set));
-    if part::is_empty(gone) {
+    let gone = values.meet(set);
+    if gone.is_empty() {
         return false;
     }
     // before the lines, so that the words which stay as they are need not be written
     sets[point] = left;
-    name_part(gone, at, lines);
+    name_each(gone, at, lines);
     false
 }
 
 /// Adds a line for each of the values, ascending, for which there is room.
-fn name_each(values: Mask, at: Occurrence, lines: &mut Lines)
-    requires { vec_len lines.old + length (values_in values) ≤ vec_capacity lines.old }
-    ensures lines { lines.new.items ≡ lines.old.items ++ removals at (values_in values) }
-    ensures len { vec_len lines.new ≡ vec_len lines.old + length (values_in values) }
+fn name_each<V: ValueSet>(values: V, at: Occurrence, lines: &mut Lines)
+    requires { vec_len lines.old + length (values_in (V.wide values)) ≤ vec_capacity lines.old }
+    ensures lines { lines.new.items ≡ lines.old.items ++ removals at (values_in (V.wide values)) }
+    ensures len { vec_len lines.new ≡ vec_len lines.old + length (values_in (V.wide values)) }
     ensures room { vec_capacity lines.old ≤ vec_capacity lines.new }
 {
     let mut left = values;
-    'values: while let Some(next) = split_first(left) {
-        let (value, rest) = next;
-        left = rest;
-        put(
-            lines,
-            Line::Remove {
-                execution: at.execution,
-                process: at.process,
-                value,
-            },
-        );
-    }
-}
-
-/// Adds a line for each of the values, all below 64, ascending, for which there is room.
-fn name_part(values: Part, at: Occurrence, lines: &mut Lines)
-    requires { vec_len lines.old + length (part_values values) ≤ vec_capacity lines.old }
-    ensures lines { lines.new.items ≡ lines.old.items ++ removals at (part_values values) }
-    ensures len { vec_len lines.new ≡ vec_len lines.old + length (part_values values) }
-    ensures room { vec_capacity lines.old ≤ vec_capacity lines.new }
-{
-    let mut left = values;
-    'values: while let Some(next) = part::split_first(left) {
+    'values: while let Some(next) = left.split_first() {
         let (value, rest) = next;
         left = rest;
         put(

@@ -4,9 +4,9 @@ use Rattle.wf_box.specs.Steps.{removals}
 use Rattle.wf_box.proofs.taking.name_each.Given as goal
 
 abbrev pub decreases-values : goal.decreases-values
-decreases-values l = length (values_in l.left)
+decreases-values g l = length (values_in (g.V.ValueSet.wide l.left))
 
 abbrev pub invariant-values : goal.invariant-values
-invariant-values l = (l.lines.items ++ removals l.at (values_in l.left) ≡ l.initial.lines.items ++ removals l.at (values_in l.initial.left))
-    × (vec_len l.lines + length (values_in l.left) ≡ vec_len l.initial.lines + length (values_in l.initial.left))
+invariant-values g l = (l.lines.items ++ removals l.at (values_in (g.V.ValueSet.wide l.left)) ≡ l.initial.lines.items ++ removals l.at (values_in (g.V.ValueSet.wide l.initial.left)))
+    × (vec_len l.lines + length (values_in (g.V.ValueSet.wide l.left)) ≡ vec_len l.initial.lines + length (values_in (g.V.ValueSet.wide l.initial.left)))
     × (vec_capacity l.initial.lines ≤ vec_capacity l.lines)

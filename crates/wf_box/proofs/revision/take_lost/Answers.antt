@@ -1,4 +1,5 @@
 use Rattle.std.proofs.Common.{[], map, ◌≡◌, ◌≤◌, None, length, get_or, refl, sym, ap, ◌∙◌, subst, arith, eqb-true, inl, inr}
+use Rattle.std.specs.Bool.{OnTrue}
 use Rattle.std.proofs.lemmas.List.{length-map, nil_from_length}
 use Rattle.wf_model.specs.Simplex.{processes_of}
 use Rattle.wf_model.specs.Problem.{Problem, constraint_at}
@@ -6,7 +7,7 @@ use Rattle.wf_model.specs.Closing.{Step, and_then, lost}
 use Rattle.wf_lane.specs.Table.{HasSupported}
 use Rattle.wf_set.specs.Sets.{box_of, values_in}
 use Rattle.wf_network.specs.Problems.{IsWithin, constraint_in, constraint_seen}
-use Rattle.wf_network.specs.Revising.{found_at}
+use Rattle.wf_network.specs.Revising.{AreSame, found_at}
 use Rattle.wf_box.specs.Steps.{NamesLost, loss, point_if, reached, revision, take_present}
 use Rattle.wf_box.specs.Working.{IsSilent}
 use Rattle.wf_network.specs.declared.problem.Rule.{Rule}
@@ -17,10 +18,10 @@ use Rattle.wf_box.proofs.PlaceLemmas.{loses_nothing, place_done, no_place_more}
 use Rattle.wf_box.proofs.WorkLemmas.{found_now, proceeds_marked, proceeds_none, proceeds_then, still_working, supported_now}
 use Rattle.wf_model.specs.Box.{count}
 use Rattle.wf_network.proofs.Lemmas.{left_supports, execution_is, execution_told, execution_within, known_at}
-use Rattle.wf_box.proofs.revision.take_sets.Goals as goal
+use Rattle.wf_box.proofs.revision.take_lost.Goals as goal
 
 pub places-init : goal.places-init
-places-init c = (
+places-init g c = (
   λ p at. named_none p c.args.lines.now.items c.args.workspace.now.tracked.words.items,
   ap (λ (s : Step). and_then (reached c.args.lines.now.items None c.args.workspace.now.tracked.words.items) (λ _. s)) (sym (lost_in_turn c.args.number (constraint_seen c.args.network.now.rules.items c.execution-execution.result) (box_of c.args.workspace.now.tracked.words.items))),
   proceeds_none _ _ _ _ c.requires.revising.working,
@@ -30,7 +31,7 @@ places-init c = (
 
 -- a place that loses nothing is passed over
 pub places-preserved-then-is_empty : goal.places-preserved-then-is_empty
-places-preserved-then-is_empty c =
+places-preserved-then-is_empty g c =
     let n = c.args.network.now in
     let x = c.execution-execution.result in
     let rule = c.index-rule.result.now in
@@ -38,16 +39,16 @@ places-preserved-then-is_empty c =
     let inside = execution_within n c.args.number x c.requires.revising.network c.requires.revising.number c.execution-execution.ensures in
     let known = known_at n.rules.items n.points x rule inside c.requires.revising.network.wide c.index-rule.ensures in
     let now = reached c.places.lines.items None c.places.workspace.tracked.words.items in
-    let none : values_in c.difference-lost.result ≡ [] = nil_from_length _ (eqb-true _ 0 (sym c.is_empty.ensures ∙ c.if-is_empty.true)) in
-    let step : now ≡ and_then now (take_present c.args.number (map (loss (get_or (processes_of rule.simplex) c.places.place 0) (get_or x.points c.places.place 0)) (values_in c.difference-lost.result))) =
+    let none : values_in (g.C.Set.ValueSet.wide c.lost-lost.result) ≡ [] = nil_from_length _ (eqb-true _ 0 (sym c.is_empty.ensures ∙ c.if-is_empty.true)) in
+    let step : now ≡ and_then now (take_present c.args.number (map (loss (get_or (processes_of rule.simplex) c.places.place 0) (get_or x.points c.places.place 0)) (values_in (g.C.Set.ValueSet.wide c.lost-lost.result)))) =
     sym (then_keeps now) ∙ ap (λ vs. and_then now (take_present c.args.number (map (loss (get_or (processes_of rule.simplex) c.places.place 0) (get_or x.points c.places.place 0)) vs))) (sym none) in
-    let done = place_done n.rules.items x rule words c.args.judged.found c.args.judged.supported c.args.number c.places.place (get_or (processes_of rule.simplex) c.places.place 0) c.difference-lost.result
+    let done = place_done n.rules.items x rule words (g.C.Candidates.at_places c.args.judged.found) (g.C.Candidates.at_places c.args.judged.supported) c.args.number c.places.place (get_or (processes_of rule.simplex) c.places.place 0) (g.C.Set.ValueSet.wide c.lost-lost.result)
     now _ known (subst (λ m. IsWithin (length n.rules.items) m x) (sym c.requires.revising.working.long) inside) (omega (arith, c.places-processes.ensures.count, c.places-processes.ensures.few)) (omega (arith, c.places-processes.ensures.count, c.places-test.true))
-    (found_now n c.args.number x words c.args.judged.found c.requires.revising.number c.execution-execution.ensures c.requires.found) (supported_now n c.args.number x words c.args.judged.found c.args.judged.supported c.requires.revising.number c.execution-execution.ensures c.requires.found c.requires.supported) refl c.difference-lost.ensures step in
+    (found_now n c.args.number x words (g.C.Candidates.at_places c.args.judged.found) c.requires.revising.number c.execution-execution.ensures c.requires.found) (supported_now n c.args.number x words (g.C.Candidates.at_places c.args.judged.found) (g.C.Candidates.at_places c.args.judged.supported) c.requires.revising.number c.execution-execution.ensures c.requires.found c.requires.supported) refl c.lost-lost.ensures step in
     (c.places.invariant.0, done ∙ c.places.invariant.1, c.places.invariant.2, c.places.invariant.3, c.places.invariant.4)
 
 pub places-preserved : goal.places-preserved
-places-preserved c =
+places-preserved g c =
     let n = c.args.network.now in
     let x = c.execution-execution.result in
     let rule = c.index-rule.result.now in
@@ -55,9 +56,9 @@ places-preserved c =
     let inside = execution_within n c.args.number x c.requires.revising.network c.requires.revising.number c.execution-execution.ensures in
     let known = known_at n.rules.items n.points x rule inside c.requires.revising.network.wide c.index-rule.ensures in
     let step = ap (λ b. reached c.take_place.new.lines.items (point_if b (get_or x.points c.places.place 0)) c.take_place.new.workspace.tracked.words.items) (sym c.if-take_place.false) ∙ c.take_place.ensures.step in
-    let done = place_done n.rules.items x rule words c.args.judged.found c.args.judged.supported c.args.number c.places.place c.process_at.result c.difference-lost.result
+    let done = place_done n.rules.items x rule words (g.C.Candidates.at_places c.args.judged.found) (g.C.Candidates.at_places c.args.judged.supported) c.args.number c.places.place c.process_at.result (g.C.Set.ValueSet.wide c.lost-lost.result)
     (reached c.places.lines.items None c.places.workspace.tracked.words.items) _ known (subst (λ m. IsWithin (length n.rules.items) m x) (sym c.requires.revising.working.long) inside) (omega (arith, c.places-processes.ensures.count, c.places-processes.ensures.few)) (omega (arith, c.places-processes.ensures.count, c.places-test.true))
-    (found_now n c.args.number x words c.args.judged.found c.requires.revising.number c.execution-execution.ensures c.requires.found) (supported_now n c.args.number x words c.args.judged.found c.args.judged.supported c.requires.revising.number c.execution-execution.ensures c.requires.found c.requires.supported) c.process_at.ensures c.difference-lost.ensures step
+    (found_now n c.args.number x words (g.C.Candidates.at_places c.args.judged.found) c.requires.revising.number c.execution-execution.ensures c.requires.found) (supported_now n c.args.number x words (g.C.Candidates.at_places c.args.judged.found) (g.C.Candidates.at_places c.args.judged.supported) c.requires.revising.number c.execution-execution.ensures c.requires.found c.requires.supported) c.process_at.ensures c.lost-lost.ensures step
     ∙ c.places.invariant.1 in
     let named : (p : Problem) → constraint_at p c.args.number ≡ constraint_seen n.rules.items x → NamesLost p c.args.lines.now c.args.workspace.now c.take_place.new.lines c.take_place.new.workspace = λ p at.
     named_then p _ _ _ _ _ _ (c.places.invariant.0 p at)
@@ -68,16 +69,16 @@ places-preserved c =
     c.take_place.ensures.silent c.args.number user none ∙ c.places.invariant.4 ((c.take_place.ensures.untouched c.args.number none).0) in
     (named, done, proceeds_then _ _ _ _ _ _ c.places.workspace _ _ c.places.invariant.2 c.if-take_place.ensures.proceeds, untouched_then n.users _ _ _ _ _ _ c.places.invariant.3 c.take_place.ensures.untouched, silent)
 
-pub unmark-requires-clause-within : goal.unmark-requires-clause-within
-unmark-requires-clause-within c =
+pub are_left-all_left-requires-clause-within : goal.are_left-all_left-requires-clause-within
+are_left-all_left-requires-clause-within g c =
     let inside = execution_within c.args.network.now c.args.number c.execution-execution.result c.requires.revising.network c.requires.revising.number c.execution-execution.ensures in
     λ i d low. omega (arith, inside.points_within i d low, c.places.invariant.2.long, ap length c.deref.ensures.value)
 
-pub unmark-requires-clause-number : goal.unmark-requires-clause-number
-unmark-requires-clause-number c = omega (arith, c.requires.revising.number, c.places.invariant.2.marks_long)
+pub unmark-requires : goal.unmark-requires
+unmark-requires g c = omega (arith, c.requires.revising.number, c.places.invariant.2.marks_long)
 
 pub take_place-requires : goal.take_place-requires
-take_place-requires c = record {
+take_place-requires g c = record {
   network = c.requires.revising.network;
   point =
       let within = execution_within c.args.network.now c.args.number c.execution-execution.result c.requires.revising.network c.requires.revising.number c.execution-execution.ensures in
@@ -86,7 +87,7 @@ take_place-requires c = record {
 }
 
 pub returns-then-take_place : goal.returns-then-take_place
-returns-then-take_place c = record {
+returns-then-take_place g c = record {
   step =
       let n = c.args.network.now in
       let x = c.execution-execution.result in
@@ -95,9 +96,9 @@ returns-then-take_place c = record {
       let inside = execution_within n c.args.number x c.requires.revising.network c.requires.revising.number c.execution-execution.ensures in
       let known = known_at n.rules.items n.points x rule inside c.requires.revising.network.wide c.index-rule.ensures in
       let step = ap (λ b. reached c.take_place.new.lines.items (point_if b (get_or x.points c.places.place 0)) c.take_place.new.workspace.tracked.words.items) (sym c.if-take_place.true) ∙ c.take_place.ensures.step in
-      let done = place_done n.rules.items x rule words c.args.judged.found c.args.judged.supported c.args.number c.places.place c.process_at.result c.difference-lost.result
+      let done = place_done n.rules.items x rule words (g.C.Candidates.at_places c.args.judged.found) (g.C.Candidates.at_places c.args.judged.supported) c.args.number c.places.place c.process_at.result (g.C.Set.ValueSet.wide c.lost-lost.result)
       (reached c.places.lines.items None c.places.workspace.tracked.words.items) _ known (subst (λ m. IsWithin (length n.rules.items) m x) (sym c.requires.revising.working.long) inside) (omega (arith, c.places-processes.ensures.count, c.places-processes.ensures.few)) (omega (arith, c.places-processes.ensures.count, c.places-test.true))
-      (found_now n c.args.number x words c.args.judged.found c.requires.revising.number c.execution-execution.ensures c.requires.found) (supported_now n c.args.number x words c.args.judged.found c.args.judged.supported c.requires.revising.number c.execution-execution.ensures c.requires.found c.requires.supported) c.process_at.ensures c.difference-lost.ensures step
+      (found_now n c.args.number x words (g.C.Candidates.at_places c.args.judged.found) c.requires.revising.number c.execution-execution.ensures c.requires.found) (supported_now n c.args.number x words (g.C.Candidates.at_places c.args.judged.found) (g.C.Candidates.at_places c.args.judged.supported) c.requires.revising.number c.execution-execution.ensures c.requires.found c.requires.supported) c.process_at.ensures c.lost-lost.ensures step
       ∙ c.places.invariant.1 in
       let seen : constraint_in n c.args.number ≡ constraint_seen n.rules.items x = ap (constraint_seen n.rules.items) (execution_is n c.args.number x c.requires.revising.number c.execution-execution.ensures) in
       done ∙ ap (λ k. and_then (reached c.args.lines.now.items None words) (revision c.args.number k)) (sym seen);
@@ -120,7 +121,7 @@ returns-then-take_place c = record {
 }
 
 pub returns : goal.returns
-returns c = record {
+returns g c = record {
   step =
       let n = c.args.network.now in
       let x = c.execution-execution.result in
@@ -157,15 +158,15 @@ returns c = record {
       let left = found_at x c.deref.result.now in
       let left_here : left ≡ found_at x fewer = ap (found_at x) c.deref.ensures.value in
       let left_long : length left ≡ 4 = length-map x.points (λ v. get_or c.deref.result.now v []) ∙ inside.long in
-      let right : HasSupported c.args.judged.supported rule.table c.args.judged.found =
-      subst (λ (r : Rule). HasSupported c.args.judged.supported r.table c.args.judged.found) known.is
-      (supported_now n c.args.number x words c.args.judged.found c.args.judged.supported c.requires.revising.number c.execution-execution.ensures c.requires.found c.requires.supported) in
+      let right : HasSupported (g.C.Candidates.at_places c.args.judged.supported) rule.table (g.C.Candidates.at_places c.args.judged.found) =
+      subst (λ (r : Rule). HasSupported (g.C.Candidates.at_places c.args.judged.supported) r.table (g.C.Candidates.at_places c.args.judged.found)) known.is
+      (supported_now n c.args.number x words (g.C.Candidates.at_places c.args.judged.found) (g.C.Candidates.at_places c.args.judged.supported) c.requires.revising.number c.execution-execution.ensures c.requires.found c.requires.supported) in
       ap (lost (box_of fewer)) seen
-      ∙ elim (c.unmark.ensures.same none) [
-        | inl same ↦
+      ∙ elim (c.unmark.ensures.left none) [
+        | inl is ↦
             loses_nothing n.rules.items x rule fewer left known (subst (λ m. IsWithin (length n.rules.items) m x) (sym done.long) inside) few left_here
-            (left_supports rule.table c.args.judged.supported c.args.judged.found left (omega (arith, known.wide, few, c.requires.long)) (omega (arith, known.wide, few, left_long)) right
-            (λ i low. same i (omega (arith, low, known.wide, c.places-processes.ensures.count))))
+            (left_supports rule.table (g.C.Candidates.at_places c.args.judged.supported) (g.C.Candidates.at_places c.args.judged.found) left (omega (arith, known.wide, few, c.requires.long)) (omega (arith, known.wide, few, left_long)) right
+            (λ i low. subst (λ b. OnTrue b (AreSame c.places-processes.result left (g.C.Candidates.at_places c.args.judged.supported))) is c.are_left-all_left.ensures i (omega (arith, low, known.wide, c.places-processes.ensures.count))))
         | inr before ↦
             (let kept = c.places.invariant.4 before in
             nothing_lost (constraint_seen n.rules.items x) c.args.lines.now.items c.places.lines.items words fewer c.args.number kept
