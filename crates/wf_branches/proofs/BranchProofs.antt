@@ -1,5 +1,5 @@
 -- What a proof about a branch shows, and what those of all branches show together.
-use Rattle.std.proofs.Common.{◌≡◌, ◌∙◌, ℕ, List, length, Result, Ok, Err, Vec, refl, ap, subst}
+use Rattle.std.proofs.Common.{◌≡◌, ◌∙◌, ℕ, List, length, map, Result, Ok, Err, Vec, refl, ap, subst}
 use Rattle.wf_model.specs.Task.{Task, IsTask}
 use Rattle.wf_model.specs.Box.{root}
 use Rattle.wf_model.specs.DecisionMap.{listed}
@@ -8,39 +8,41 @@ use Rattle.wf_model.proofs.MapsAreSolutions.{listed_solves}
 use Rattle.wf_model.proofs.OrderedCovers.{in_exactly_one, split_covers}
 use Rattle.wf_model.proofs.LeastSolutions.{solution_in_root}
 use Rattle.wf_model.proofs.WellFormed.{task_well_formed}
+use Rattle.wf_clauses.specs.Formula.{Formula, IsUnsatisfiable}
+use Rattle.wf_set.specs.Sets.{values_in}
 use Rattle.wf_formula.specs.Branches.{branch_at, branch_question, branches, formula_in}
 use Rattle.wf_formula.specs.Encoding.{stating}
 use Rattle.wf_formula.proofs.Branches.{is_model_in}
 use Rattle.wf_io.specs.Seen.{Reading}
 use Rattle.wf_io.specs.Texts.{Wrote}
-use Rattle.wf_rup.specs.Seen.{HasNoModel, Known}
-use Rattle.wf_rup.specs.Posed.{FollowsFrom, IsPosed}
-use Rattle.wf_verify_engine.specs.Proofs.{ReadsAsProof}
 use Rattle.wf_run.specs.Sources.{NextReads, ReadsAbout}
 use Rattle.wf_run.specs.declared.fault.RunFault.{RunFault}
 use Rattle.wf_run.proofs.RunsOverTwoSources.{done}
 use Rattle.wf_run.specs.Run.{answered}
 use Rattle.wf_run.proofs.RunsInPieces.{IsRefusal}
-use Rattle.wf_verify_engine.proofs.ProofsToLines.{accepted_of}
-use Rattle.wf_branches.specs.Branches.{HasBranch, IsNoBranch}
-use Rattle.wf_branches.specs.Refuting.{FindsBranch, HasNoMapIn, IsAcceptedBranch, ReadsBranchProof, ReadsIn, ReadsProofIn, accepted_text}
+use Rattle.wf_branches.specs.Branches.{HasBranch, IsBranch, IsNoBranch}
+use Rattle.wf_branches.specs.declared.branch.FoundBranch.{FoundBranch}
+use Rattle.wf_branches.specs.Refuting.{FindsBranch, HasNoMapIn, ReadsBranchProof, ReadsIn, ReadsProofIn, accepted_text}
 use Rattle.wf_branches.specs.Laws.{BranchesCoverAllMaps, BranchRefutationsAreTrue}
 
--- where what is known follows from a branch's question and has no model, no decision map lies there
-pub no_map_in : (t : Task) (r i : ℕ) (known : Known) → IsTask t → FollowsFrom (formula_in (problem_of t r) (branch_at t r i)) known → HasNoModel known → HasNoMapIn t r i
-no_map_in t r i known is follows refuted m decides lies =
+-- where a branch's question has no model, no decision map lies there
+pub none_in : (t : Task) (r i : ℕ) → IsTask t → IsUnsatisfiable (branch_question t r i) → HasNoMapIn t r i
+none_in t r i is unsatisfiable m decides lies =
     let solves = listed_solves t r m decides in
-    let a = stating (problem_of t r).values (listed t r m) in
-    refuted a (follows a (is_model_in (problem_of t r) (branch_at t r i) (listed t r m) (task_well_formed t r is)
-    (record { solves = solves; listed = solution_in_root t r (listed t r m) is solves; lies = lies })))
+    unsatisfiable (stating (problem_of t r).values (listed t r m))
+    (is_model_in (problem_of t r) (branch_at t r i) (listed t r m) (task_well_formed t r is)
+    (record { solves = solves; listed = solution_in_root t r (listed t r m) is solves; lies = lies }))
 
--- the line that says so
-module _ (t : Task) (r i : ℕ) (known : Known) (is : IsTask t) (posed : IsPosed (branch_question t r i) known) (old new : Reading) where
-  pub told : (n : ℕ) (text : List ℕ) → n ≡ length (branches t r) → text ≡ accepted_text i n r → ReadsAsProof {X = Unit {0}} known (λ accepted. HasNoModel known) old new (Ok tt)
-      → ReadsBranchProof i t r old new (Ok (tt, text))
-  told n text count same read =
-      accepted_of (branch_question t r i) (IsAcceptedBranch i t r) known posed old new text
-      (λ refuted. (no_map_in t r i known is posed.models.follows refuted, same ∙ ap (λ k. accepted_text i k r) count)) read
+-- what is posed of the sets that the code keeps of a branch is posed of the branch's question
+pub posed_in : {Checker : Type 0} (is_posed : Formula → Checker → Type 0) (t : Task) (r i : ℕ) (branch : FoundBranch) (sets : List (List ℕ)) (checker : Checker) → IsBranch t r i branch
+    → sets ≡ branch.sets.items → is_posed (formula_in (problem_of t r) (map values_in sets)) checker → is_posed (branch_question t r i) checker
+posed_in is_posed t r i branch sets checker is same posed = subst (λ box. is_posed (formula_in (problem_of t r) box) checker) (ap (map values_in) same ∙ is.sets) posed
+
+-- the line that is told of a branch by its index
+pub told_of : (t : Task) (r i : ℕ) (branch : FoundBranch) (number count rounds : ℕ) (text : List ℕ) → IsBranch t r i branch → number ≡ branch.number → count ≡ branch.count → rounds ≡ r
+    → text ≡ accepted_text number count rounds → text ≡ accepted_text i (length (branches t r)) r
+told_of t r i branch number count rounds text is same-number same-count same-rounds told =
+    told ∙ ap (λ n. accepted_text n count rounds) (same-number ∙ is.number) ∙ ap (λ n. accepted_text i n rounds) (same-count ∙ is.count) ∙ ap (λ k. accepted_text i (length (branches t r)) k) same-rounds
 
 pub branches_cover : BranchesCoverAllMaps
 branches_cover t r is none m decides =

@@ -1,55 +1,27 @@
 -- What a proof with hints about a branch shows, and what is counted of it.
 use Rattle.std.proofs.Common.{◌≡◌, ◌∙◌, ℕ, List, length, Result, Ok, Err, ap, subst, arith}
-use Rattle.wf_model.specs.Task.{Task, IsTask}
-use Rattle.wf_model.specs.DecisionMap.{listed}
-use Rattle.wf_model.specs.Problem.{problem_of}
-use Rattle.wf_model.proofs.MapsAreSolutions.{listed_solves}
-use Rattle.wf_model.proofs.LeastSolutions.{solution_in_root}
-use Rattle.wf_model.proofs.WellFormed.{task_well_formed}
-use Rattle.wf_clauses.specs.Formula.{IsUnsatisfiable}
-use Rattle.wf_formula.specs.Branches.{branch_at, branch_question, branches}
-use Rattle.wf_formula.specs.Encoding.{stating}
-use Rattle.wf_formula.proofs.Branches.{is_model_in}
+use Rattle.wf_model.specs.Task.{Task}
+use Rattle.wf_formula.specs.Branches.{branch_question, branches}
 use Rattle.wf_io.specs.Seen.{Reading, Writing}
 use Rattle.wf_io.specs.Texts.{Wrote}
 use Rattle.wf_lrat.specs.Ledger.{ledger_of}
-use Rattle.wf_lrat.specs.Models.{HasNoModel}
-use Rattle.wf_lrat.proofs.ModelLemmas.{refutes_formula}
 use Rattle.wf_run.specs.Laws.{IsChecked}
 use Rattle.wf_run.specs.Run.{by_result, failed_reads, failed_writes}
 use Rattle.wf_run.specs.Sources.{NextReads}
 use Rattle.wf_run.specs.declared.fault.RunFault.{RunFault}
 use Rattle.wf_run.proofs.RunsOverTwoSources.{IsReadCounted, done}
 use Rattle.wf_run.proofs.RunsOverTwoSources as both
-use Rattle.wf_verify_engine.specs.Hints.{ReadsAsHints}
 use Rattle.wf_verify_engine.specs.Proofs.{most_proof_bytes}
 use Rattle.wf_verify_engine.proofs.HintCounts.{hints_counted}
-use Rattle.wf_verify_engine.proofs.HintsToLines.{accepted_of}
 use Rattle.wf_branches.specs.Branches.{HasBranch}
 use Rattle.wf_branches.specs.Hints.{HintedBranchRefutationsAreTrue, ReadsBranchHints, ReadsHintsIn, RefutesBranchByHints}
 use Rattle.wf_branches.specs.Refuting.{FindsBranch, HasNoMapIn, IsAcceptedBranch, accepted_text}
 use Rattle.wf_branches.proofs.Counts.{missing}
 
--- where a branch's question has no model, no decision map lies there
-none_in : (t : Task) (r i : ℕ) → IsTask t → IsUnsatisfiable (branch_question t r i) → HasNoMapIn t r i
-none_in t r i is unsatisfiable m decides lies =
-    let solves = listed_solves t r m decides in
-    unsatisfiable (stating (problem_of t r).values (listed t r m))
-    (is_model_in (problem_of t r) (branch_at t r i) (listed t r m) (task_well_formed t r is)
-    (record { solves = solves; listed = solution_in_root t r (listed t r m) is solves; lies = lies }))
-
--- the line that says so
-pub told : (t : Task) (r i : ℕ) → IsTask t → (old new : Reading) (n : ℕ) (text : List ℕ) → n ≡ length (branches t r) → text ≡ accepted_text i n r
-    → ReadsAsHints {X = Unit {0}} (ledger_of (branch_question t r i)) (λ accepted. HasNoModel (ledger_of (branch_question t r i))) old new (Ok tt) → ReadsBranchHints i t r old new (Ok (tt, text))
-told t r i is old new n text count same read =
-    let f = branch_question t r i in
-    accepted_of (ledger_of f) (IsAcceptedBranch i t r) old new text
-    (λ refuted. (none_in t r i is (refutes_formula f refuted), same ∙ ap (λ k. accepted_text i k r) count)) read
-
 -- where the proof was read there is the branch
 was_found : (i : ℕ) (t : Task) (r : ℕ) (old new : Reading) (text : List ℕ) (found : Result (Unit {0}) RunFault) → FindsBranch t r i found
     → NextReads (λ there. ReadsBranchHints i t r) old new found (Ok (tt, text)) → HasBranch t r i × HasNoMapIn t r i × (text ≡ accepted_text i (length (branches t r)) r)
-was_found i t r old new text (Ok there) has (given, gave, is) = (has, is.0.0, is.0.1)
+was_found i t r old new text (Ok there) has (given, gave, is) = (has, is.0.0.0, is.0.0.1)
 was_found i t r old new text (Err e) has next = absurd (let bad : ⊥ = cc in bad)
 
 pub hinted_branch_refutations_true : HintedBranchRefutationsAreTrue

@@ -5,22 +5,21 @@ ghost use Rattle.std.specs.Thread.{IsSync};
 ghost use Rattle.wf_complex.specs.Protocol.{Builds, IsProtocol};
 ghost use Rattle.wf_report.specs.Reports.{body_length, body_of};
 ghost use Rattle.wf_run.specs.Run.{answered};
-ghost use Rattle.wf_run.specs.Sources.{CanReadBoth};
 ghost use Rattle.wf_branches.specs.Branches.{IsCoverOf};
-ghost use Rattle.wf_branches.specs.Joining.{AcceptsJoined, GathersAll, HasListsFor, Joins, JoinsText, ReadsParts, gathered_of, gathered_seen, joined_body};
+ghost use Rattle.wf_branches.specs.Joining.{AcceptsJoined, GathersAll, HasListsFor, JoinsText, ReadsParts, gathered_of, gathered_seen, joined_body};
 
 use crate::branch::cover_of;
 use crate::parts::{next_part, take_part};
 use crate::verifying::PartJudge;
 use std::alloc::{AllocError, Global};
-use std::io::{Read, Write};
+use std::io::Read;
 use std::thread::Threads;
 use wf_check::{ReportChecker, check};
 use wf_complex::Protocol;
-use wf_io::{Sink, Source, read_all};
+use wf_io::{Source, read_all};
 use wf_lines::Lines;
 use wf_report::{Body, Header, Report};
-use wf_run::{RunFault, SecondText, run_over_both};
+use wf_run::{Answered, RunFault, SecondText, TextSubject};
 use wf_search::Cover;
 use wf_task::Task;
 
@@ -30,41 +29,18 @@ const MOST_PARTS_BYTES: usize = u32::MAX as usize;
 /// A report has fewer values and lines than this.
 const MOST_LINES: usize = 1 << 31;
 
-/// Reads a task to its reader's end, and then the parts of the branches of its question after these
-/// rounds to their own reader's end, one part behind another in the order of the branches; checks
-/// each of them without a search, up to the first that has a map; and writes the report of the
-/// whole question, which is checked as well before it is written.
+/// The report of a task's whole question, from the parts of its branches. The second source gives
+/// the parts, one behind another in the order of the branches. Each part is checked without a
+/// search, up to the first that has a map, and the report is checked before it is written.
 ///
-/// A part goes up to its line `end`. Where what comes next is no part about the branch that is to
-/// come, that is told, `47 NoPart`; a part that is not accepted is, `48 InPart`; and where the text
-/// goes on behind the parts of all branches, that is, `49 TooManyParts`. What comes behind the
-/// first part that has a map is not looked at.
-pub fn run_join<T: Threads + Sync, R: Read, C: Read, W: Write>(
-    rt: &T,
-    alloc: Global,
-    task_source: &mut Source<R>,
-    parts_source: &mut Source<C>,
-    sink: &mut Sink<W>,
-    rounds: u32,
-) -> Result<(), RunFault>
-    requires { CanReadBoth task_source.old parts_source.old sink.old }
-    ensures { Joins rounds task_source.old task_source.new parts_source.old parts_source.new
-        sink.old sink.new result }
-{
-    run_over_both(
-        alloc,
-        task_source,
-        parts_source,
-        sink,
-        rounds,
-        &WholeOfParts { rt },
-    )
-}
-
-/// The report that the parts of all branches come to.
+/// A part goes up to its line `end`. If what comes next is no part about the branch that is to
+/// come, the text is refused by `47 NoPart`; if a part is not accepted, by `48 InPart`; and if the
+/// text goes on behind the parts of all branches, by `49 TooManyParts`. What comes behind the first
+/// part that has a map is not looked at.
 #[derive(Clone, Copy)]
-struct WholeOfParts<'a, T> {
-    rt: &'a T,
+pub struct WholeOfParts<'a, T> {
+    /// What starts threads.
+    pub rt: &'a T,
 }
 
 impl<'a, T: Threads + Sync> SecondText for WholeOfParts<'a, T> {
@@ -72,15 +48,9 @@ impl<'a, T: Threads + Sync> SecondText for WholeOfParts<'a, T> {
 
     ghost reads = { λ whole. ReadsParts };
 
-    fn read_about<C: Read>(
-        &self,
-        alloc: Global,
-        task: &Task,
-        protocol: &Protocol,
-        source: &mut Source<C>,
-    ) -> Result<((), Vec<u8>), RunFault> {
-        let text = read_all(alloc, source, MOST_PARTS_BYTES)?;
-        join_text(self.rt, alloc, task, protocol, text)
+    fn read_about<C: Read>(&self, subject: &TextSubject, source: &mut Source<C>) -> Answered<()> {
+        let text = read_all(subject.alloc, source, MOST_PARTS_BYTES)?;
+        join_text(self.rt, subject.alloc, subject.task, subject.protocol, text)
     }
 }
 
@@ -91,7 +61,7 @@ fn join_text<T: Threads + Sync>(
     task: &Task,
     protocol: &Protocol,
     text: Vec<u8>,
-) -> Result<((), Vec<u8>), RunFault>
+) -> Answered<()>
     requires { Builds task.now protocol.now.rounds (Ok protocol.now) }
     ensures { JoinsText task.now protocol.now.rounds text.items (answered result) }
 {
@@ -182,7 +152,7 @@ fn accept_joined<T: Threads + Sync>(
     task: &Task,
     protocol: &Protocol,
     body: Body,
-) -> Result<((), Vec<u8>), RunFault>
+) -> Answered<()>
     requires { Builds task.now protocol.now.rounds (Ok protocol.now) }
     ensures { AcceptsJoined task.now protocol.now.rounds (body_of body) (answered result) }
 {

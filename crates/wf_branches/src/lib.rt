@@ -1,18 +1,18 @@
 //! A task's question branch by branch: a run over one branch is a job of its own, and the branches
 //! together decide the question.
 //!
-//! - [`run_branches`]: a task's text in, and the list of the branches of its question out.
-//! - [`run_cnf_branch`]: a task's text in, and the question of one branch, as a formula, out.
+//! - [`BranchList`]: the list of the branches of a task's question, for
+//!   [`run_over_task`](wf_run::run_over_task).
+//! - [`BranchQuestion`]: the question of one branch, as a formula, for
+//!   [`run_in_pieces`](wf_run::run_in_pieces).
 //! - [`run_solve_branch`]: a task's text in, and the least decision map of one branch, or a
 //!   refutation of it, out.
-//! - [`run_verify_branch`]: a task's text and the text that `run_solve_branch` wrote in, and what
-//!   is accepted of the branch out.
-//! - [`run_proof_branch`]: a task's text and a SAT solver's clausal proof in, and that no decision
-//!   map of one branch is accepted out.
-//! - [`run_hinted_proof_branch`]: a task's text and a solver's proof with hints in, and that no
-//!   decision map of one branch is accepted out.
-//! - [`run_join`]: a task's text and the parts of its branches in, and the
-//!   report of the whole question out.
+//! - [`PartOfBranch`]: what is accepted of a text that `run_solve_branch` wrote, for
+//!   [`run_over_both`](wf_run::run_over_both).
+//! - [`NoneInBranch`]: that no decision map of one branch is accepted, by a SAT solver's proof in
+//!   any [`ProofFormat`](wf_verify_engine::ProofFormat), for the same.
+//! - [`WholeOfParts`]: the report of the whole question, from the parts of its branches, for the
+//!   same.
 //!
 //! What the branches are, `wf_model` says: the boxes into which [`wf_search::split`] cuts the root.
 //! The laws say what runs over all of them come to: where none of them has a decision map there is
@@ -23,7 +23,6 @@
 
 mod asking;
 mod branch;
-mod hinted;
 mod joining;
 mod laws;
 mod listing;
@@ -32,9 +31,8 @@ mod refuting;
 mod solving;
 mod verifying;
 
-pub use asking::run_cnf_branch;
-pub use hinted::run_hinted_proof_branch;
-pub use joining::run_join;
+pub use asking::BranchQuestion;
+pub use joining::WholeOfParts;
 pub use laws::{
     branch_answers_are_true, branch_proving_is_counted, branch_refutations_are_true,
     branch_solving_is_counted, branches_cover_all_maps, hinted_branch_proving_is_counted,
@@ -43,7 +41,7 @@ pub use laws::{
     part_checking_is_counted, parts_of_searches_are_joined, parts_of_searches_join_to_the_whole,
     solved_reports_are_accepted,
 };
-pub use listing::run_branches;
-pub use refuting::run_proof_branch;
+pub use listing::BranchList;
+pub use refuting::NoneInBranch;
 pub use solving::{BranchSearch, run_solve_branch};
-pub use verifying::run_verify_branch;
+pub use verifying::PartOfBranch;

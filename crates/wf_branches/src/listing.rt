@@ -7,48 +7,32 @@ ghost use Rattle.wf_model.specs.Execution.{executions};
 ghost use Rattle.wf_model.specs.Outline.{boxes_left_out};
 ghost use Rattle.wf_model.specs.Points.{points};
 ghost use Rattle.wf_complex.specs.Protocol.{IsProtocol};
-ghost use Rattle.wf_io.specs.Ends.{CanCount};
-ghost use Rattle.wf_run.specs.Texts.{IsTextOf, Lists};
+ghost use Rattle.wf_run.specs.Texts.{IsTextOf};
 ghost use Rattle.wf_branches.specs.Listing.{branches_text, entries_text, entry_line, header_text, open_points};
 
 use crate::branch::cover_of;
 use std::alloc::{AllocError, Global};
 use std::fmt::Write as _;
-use std::io::{Read, Write};
 use wf_box::Box0;
 use wf_complex::Protocol;
-use wf_io::{Sink, Source};
 use wf_lines::{put_number, put_words};
-use wf_run::{RunFault, TaskAnswer, run_over_task};
+use wf_run::{Answered, TaskAnswer};
 use wf_search::Cover;
 use wf_set::count;
 use wf_task::Task;
 
-/// Reads a task to the reader's end and writes the list of the branches into which its question
-/// after some rounds is cut: a line for each, with its number, how many points have two candidates
-/// or more in it, and how many candidates are left at all points together.
-pub fn run_branches<R: Read, W: Write>(
-    alloc: Global,
-    source: &mut Source<R>,
-    sink: &mut Sink<W>,
-    rounds: u32,
-) -> Result<(), RunFault>
-    requires { CanCount source.old sink.old }
-    ensures { Lists branches_text rounds source.old source.new sink.old sink.new result }
-{
-    run_over_task(alloc, source, sink, rounds, &BranchList)
-}
-
-/// The list of the branches.
+/// The list of the branches into which a task's question is cut: a line for each, with its number,
+/// how many points have two candidates or more in it, and how many candidates are left at all
+/// points together.
 #[derive(Clone, Copy)]
-struct BranchList;
+pub struct BranchList;
 
 impl TaskAnswer for BranchList {
     type Answer = ();
 
     ghost is_text = { λ list. IsTextOf branches_text };
 
-    fn of_task(&self, alloc: Global, task: &Task, rounds: u32) -> Result<((), Vec<u8>), RunFault> {
+    fn of_task(&self, alloc: Global, task: &Task, rounds: u32) -> Answered<()> {
         let protocol = Protocol::build(alloc, task, rounds)?;
         Ok(((), write_branches(alloc, task, &protocol)?))
     }

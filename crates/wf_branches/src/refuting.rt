@@ -1,91 +1,45 @@
-//! Checking a SAT solver's clausal proof that the question of one branch has no model.
+//! Checking a SAT solver's proof that the question of one branch has no model.
 
-ghost use Rattle.wf_io.specs.Ends.{CanRead};
-ghost use Rattle.wf_complex.specs.Protocol.{IsProtocol};
-ghost use Rattle.wf_run.specs.Run.{answered};
-ghost use Rattle.wf_run.specs.Sources.{CanReadBoth};
-ghost use Rattle.wf_branches.specs.Branches.{IsBranch};
-ghost use Rattle.wf_branches.specs.Refuting.{ReadsBranchProof, ReadsProofIn, RefutesBranch};
+ghost use Rattle.wf_formula.specs.Branches.{branch_question};
+ghost use Rattle.wf_branches.specs.Refuting.{IsAcceptedBranch, ReadsIn};
 
-use crate::branch::{FoundBranch, branch_of};
-use std::alloc::Global;
-use std::io::{Read, Write};
-use wf_complex::Protocol;
-use wf_io::{Sink, Source};
-use wf_posing::pose_branch;
-use wf_run::{RunFault, SecondText, run_over_both};
-use wf_task::Task;
-use wf_verify_engine::{ProofListener, read_proof_from};
+use crate::branch::branch_of;
+use std::io::Read;
+use wf_io::Source;
+use wf_run::{Answered, SecondText, TextSubject};
+use wf_verify_engine::{ProofFormat, ProofListener};
 
-/// Reads a task to its reader's end, and then a SAT solver's clausal proof to its own reader's end.
-/// Checks each lemma, by unit propagation or as a resolution asymmetric tautology, over the formula
-/// of one branch of the task's question after these rounds, which is made here. Writes that no
-/// decision map is accepted in that branch. If that is written, no decision map lies in the branch,
-/// whatever the proof's bytes are.
+/// The line that no decision map is accepted in one branch of a task's question, if a SAT solver's
+/// proof shows it. The second source of a run is read to its end as a proof in this format, and
+/// each of its steps is checked over the formula of the branch, which is made here. If the line is
+/// written, no decision map lies in the branch, whatever the proof's bytes are.
 ///
-/// A branch that is not there is refused before the proof is read, with how
-/// many branches there are. If there is a listener, it is told how the check goes on.
-pub fn run_proof_branch<L: ProofListener, R: Read, C: Read, W: Write>(
-    alloc: Global,
-    task_source: &mut Source<R>,
-    proof_source: &mut Source<C>,
-    sink: &mut Sink<W>,
-    rounds: u32,
-    branch: u32,
-    listener: Option<&L>,
-) -> Result<(), RunFault>
-    requires { CanReadBoth task_source.old proof_source.old sink.old }
-    ensures { RefutesBranch rounds branch task_source.old task_source.new
-        proof_source.old proof_source.new sink.old sink.new result }
-{
-    let none = NoneInBranch {
-        number: branch,
-        listener,
-    };
-    run_over_both(alloc, task_source, proof_source, sink, rounds, &none)
-}
-
-/// That no decision map is accepted in the branch of this number, if a solver's proof shows it.
+/// A branch that is not there is refused before the proof is read, with how many branches there
+/// are.
 #[derive(Clone, Copy)]
-struct NoneInBranch<'a, L> {
-    number: u32,
-    listener: Option<&'a L>,
+pub struct NoneInBranch<'a, P, L> {
+    /// The proof's format.
+    pub format: P,
+    /// The branch's number, from 0.
+    pub number: u32,
+    /// Who hears how the check goes on, if anybody does.
+    pub listener: Option<&'a L>,
 }
 
-impl<'a, L: ProofListener> SecondText for NoneInBranch<'a, L> {
-    ghost reads = { λ none. ReadsProofIn none.number };
+impl<'a, P: ProofFormat, L: ProofListener> SecondText for NoneInBranch<'a, P, L> {
+    ghost reads = { λ none. ReadsIn (λ i t r.
+        P.reads (branch_question t r i) (IsAcceptedBranch i t r)) none.number };
 
-    fn read_about<C: Read>(
-        &self,
-        alloc: Global,
-        task: &Task,
-        protocol: &Protocol,
-        source: &mut Source<C>,
-    ) -> Result<((), Vec<u8>), RunFault> {
-        let branch = branch_of(alloc, task, protocol, self.number)?;
-        refute(alloc, task, protocol, &branch, source, self.listener)
+    fn read_about<C: Read>(&self, subject: &TextSubject, source: &mut Source<C>) -> Answered<()> {
+        let alloc = subject.alloc;
+        let branch = branch_of(alloc, subject.task, subject.protocol, self.number)?;
+        let checker = self
+            .format
+            .pose_branch(alloc, subject.task, subject.protocol, &branch.sets)?;
+        self.format
+            .read_from(alloc, source, checker, self.listener)?;
+        let index = branch.index();
+        let text = index.accepted(alloc, "accepted none", subject.protocol.rounds())?;
+        Ok(((), text.into_bytes()))
     }
-}
-
-/// The line that no decision map is accepted in a branch, where a source's proof shows it on a
-/// task's protocol complex.
-fn refute<L: ProofListener, C: Read>(
-    alloc: Global,
-    task: &Task,
-    protocol: &Protocol,
-    branch: &FoundBranch,
-    source: &mut Source<C>,
-    listener: Option<&L>,
-) -> Result<((), Vec<u8>), RunFault>
-    requires source { CanRead source.old }
-    requires protocol { IsProtocol task.now protocol.now.rounds protocol.now }
-    requires branch { IsBranch task.now protocol.now.rounds branch.now.number branch.now }
-    ensures { ReadsBranchProof branch.now.number task.now protocol.now.rounds
-        source.old source.new (answered result) }
-{
-    let checker = pose_branch(alloc, task, protocol, &branch.sets)?;
-    read_proof_from(alloc, source, checker, listener)?;
-    let index = branch.index();
-    let text = index.accepted(alloc, "accepted none", protocol.rounds())?;
-    Ok(((), text.into_bytes()))
 }

@@ -21,7 +21,7 @@ use wf_engine::{
 use wf_io::{Sink, Source};
 use wf_pool::{Answer, BranchAnswer, Gate, solve_branch};
 use wf_report::{Body, Header};
-use wf_run::{RunFault, hand_out, read_task};
+use wf_run::{Answered, RunFault, hand_out, read_task};
 use wf_task::Task;
 
 /// A search of one branch of a question, for a report in the form that is wanted. If there is a
@@ -63,7 +63,7 @@ fn search_source<G: Gate, R: Read>(
     alloc: Global,
     source: &mut Source<R>,
     search: &BranchSearch<G>,
-) -> Result<(Outcome, Vec<u8>), RunFault>
+) -> Answered<Outcome>
     requires { CanRead source.old }
     ensures { AsksBranch (IsSolvedIn search.now.wanted.form) search.now.wanted.rounds
         search.now.branch source.old source.new (answered result) }
@@ -73,11 +73,7 @@ fn search_source<G: Gate, R: Read>(
 }
 
 /// What a branch of a task's question has, with the text of the part.
-fn search_task<G: Gate>(
-    alloc: Global,
-    task: &Task,
-    search: &BranchSearch<G>,
-) -> Result<(Outcome, Vec<u8>), RunFault>
+fn search_task<G: Gate>(alloc: Global, task: &Task, search: &BranchSearch<G>) -> Answered<Outcome>
     ensures { AnswersBranch (IsSolvedIn search.now.wanted.form) task.now
         search.now.wanted.rounds search.now.branch (answered result) }
 {

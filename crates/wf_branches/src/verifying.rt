@@ -8,56 +8,38 @@ ghost use Rattle.wf_report.specs.Reports.{AreNumbered, body_length, body_of, rep
 ghost use Rattle.wf_check.specs.Within.{IsCheckerOf};
 ghost use Rattle.wf_set.specs.Sets.{box_of};
 ghost use Rattle.wf_run.specs.Run.{answered};
-ghost use Rattle.wf_run.specs.Sources.{CanReadBoth};
 ghost use Rattle.wf_verify_engine.specs.Verify.{seen};
 ghost use Rattle.wf_branches.specs.Branches.{IsBranch};
 ghost use Rattle.wf_branches.specs.Refuting.{ReadsIn};
-ghost use Rattle.wf_branches.specs.Verifying.{ChecksIn, ChecksPart, IsPartOf, JudgesPart, ReadsPart, VerifiesBranch, is_outside, lies_in};
+ghost use Rattle.wf_branches.specs.Verifying.{ChecksIn, ChecksPart, IsPartOf, JudgesPart, ReadsPart, is_outside, lies_in};
 
 use crate::branch::{FoundBranch, branch_of};
 use std::alloc::Global;
-use std::io::{Read, Write};
+use std::io::Read;
 use std::thread::Threads;
 use wf_check::{ReportChecker, TaskReport};
 use wf_complex::Protocol;
-use wf_io::{Sink, Source, read_all};
+use wf_io::{Source, read_all};
 use wf_report::{Body, Report, read_report};
-use wf_run::{RunFault, SecondText, run_over_both};
+use wf_run::{Answered, RunFault, SecondText, TextSubject};
 use wf_set::{Mask, holds};
 use wf_task::{LONGEST, Task};
 use wf_verify_engine::accepted_words;
 
-/// Reads a task to its reader's end, and then the part of an answer about one branch of its
-/// question after these rounds to its own reader's end; checks the part without a search; and
-/// writes what is accepted. A map that is accepted is a decision map that lies in the branch, and
-/// with its lines the least one there; where none is accepted, no decision map lies in the branch.
+/// What is accepted of a part, which is the answer about one branch of a task's question. The
+/// second source gives the part. A map that is accepted is a decision map that lies in the branch,
+/// and with its lines the least one there. If none is accepted, no decision map lies in the branch.
 ///
-/// A branch that is not there is refused before the part is read, with how many
-/// branches there are. The part of another branch is refused, `45 OtherPart`, and
-/// so is a decision map that lies in another one, `46 NotInBranch`. The lines of
-/// other refusals are counted from that on with which the report begins.
-pub fn run_verify_branch<T: Threads + Sync, R: Read, C: Read, W: Write>(
-    rt: &T,
-    alloc: Global,
-    task_source: &mut Source<R>,
-    part_source: &mut Source<C>,
-    sink: &mut Sink<W>,
-    rounds: u32,
-    branch: u32,
-) -> Result<(), RunFault>
-    requires { CanReadBoth task_source.old part_source.old sink.old }
-    ensures { VerifiesBranch rounds branch task_source.old task_source.new
-        part_source.old part_source.new sink.old sink.new result }
-{
-    let part = PartOfBranch { rt, number: branch };
-    run_over_both(alloc, task_source, part_source, sink, rounds, &part)
-}
-
-/// What is accepted of a part about the branch of this number.
+/// A branch that is not there is refused before the part is read, with how many branches there are.
+/// The part of another branch is refused by `45 OtherPart`, and a decision map that lies in another
+/// branch by `46 NotInBranch`. The lines of other refusals are counted from the line on with which
+/// the report begins.
 #[derive(Clone, Copy)]
-struct PartOfBranch<'a, T> {
-    rt: &'a T,
-    number: u32,
+pub struct PartOfBranch<'a, T> {
+    /// What starts threads.
+    pub rt: &'a T,
+    /// The branch's number, from 0.
+    pub number: u32,
 }
 
 impl<'a, T: Threads + Sync> SecondText for PartOfBranch<'a, T> {
@@ -65,20 +47,14 @@ impl<'a, T: Threads + Sync> SecondText for PartOfBranch<'a, T> {
 
     ghost reads = { λ part. ReadsIn ReadsPart part.number };
 
-    fn read_about<C: Read>(
-        &self,
-        alloc: Global,
-        task: &Task,
-        protocol: &Protocol,
-        source: &mut Source<C>,
-    ) -> Result<((), Vec<u8>), RunFault> {
-        let branch = branch_of(alloc, task, protocol, self.number)?;
+    fn read_about<C: Read>(&self, subject: &TextSubject, source: &mut Source<C>) -> Answered<()> {
+        let branch = branch_of(subject.alloc, subject.task, subject.protocol, self.number)?;
         let judge = PartJudge {
             rt: self.rt,
-            task,
-            protocol,
+            task: subject.task,
+            protocol: subject.protocol,
         };
-        verify_part(&judge, alloc, branch, source)
+        verify_part(&judge, subject.alloc, branch, source)
     }
 }
 
@@ -96,7 +72,7 @@ fn verify_part<T: Threads + Sync, C: Read>(
     alloc: Global,
     branch: FoundBranch,
     source: &mut Source<C>,
-) -> Result<((), Vec<u8>), RunFault>
+) -> Answered<()>
     requires source { CanRead source.old }
     requires protocol { IsProtocol judge.now.task.now
         judge.now.protocol.now.rounds judge.now.protocol.now }
@@ -116,7 +92,7 @@ fn judge_part<T: Threads + Sync>(
     alloc: Global,
     branch: FoundBranch,
     text: &[u8],
-) -> Result<((), Vec<u8>), RunFault>
+) -> Answered<()>
     requires protocol { IsProtocol judge.now.task.now
         judge.now.protocol.now.rounds judge.now.protocol.now }
     requires branch { IsBranch judge.now.task.now
@@ -159,7 +135,7 @@ fn accept<T: Threads + Sync>(
     alloc: Global,
     branch: FoundBranch,
     report: &Report,
-) -> Result<((), Vec<u8>), RunFault>
+) -> Answered<()>
     requires few { AreNumbered (body_length report.now.body) }
     requires protocol { IsProtocol judge.now.task.now
         judge.now.protocol.now.rounds judge.now.protocol.now }

@@ -9,9 +9,9 @@ use std::thread::Threads;
 use wf_checker_args::Check;
 use wf_files::{TaskRun, without_answer};
 use wf_io::{Sink, Source};
-use wf_long::run_verify_long;
-use wf_run::RunFault;
-use wf_verify_engine::{Unheard, run_hinted_proof, run_proof, run_verify_certificate};
+use wf_long::AcceptedLongReport;
+use wf_run::{RunFault, run_over_both, run_over_pair};
+use wf_verify_engine::{AcceptedCertificate, Clausal, Hinted, NoneByProof, Unheard};
 
 /// A check, and what it is done with.
 #[derive(Clone, Copy)]
@@ -33,17 +33,29 @@ impl<'a, T: Threads + Sync> TaskRun for CheckRun<'a, T> {
         sink: &mut Sink<W>,
     ) -> Result<(), RunFault> {
         let CheckRun { rt, alloc, check } = *self;
-        let unheard = None::<&Unheard>;
+        let listener = None::<&Unheard>;
         match check {
-            Check::Certificate(rounds) => without_answer(run_verify_certificate(
-                rt, alloc, task, source, sink, rounds,
-            )),
-            Check::LongReport(rounds) => without_answer(run_verify_long(
-                rt, alloc, task, source, sink, rounds,
-            )),
-            Check::Proof(rounds) => run_proof(alloc, task, source, sink, rounds, unheard),
+            Check::Certificate(rounds) => {
+                let accepted = AcceptedCertificate { rt, rounds };
+                without_answer(run_over_pair(alloc, task, source, sink, &accepted))
+            }
+            Check::LongReport(rounds) => {
+                let accepted = AcceptedLongReport { rt, rounds };
+                without_answer(run_over_pair(alloc, task, source, sink, &accepted))
+            }
+            Check::Proof(rounds) => {
+                let none = NoneByProof {
+                    format: Clausal,
+                    listener,
+                };
+                run_over_both(alloc, task, source, sink, rounds, &none)
+            }
             Check::HintedProof(rounds) => {
-                run_hinted_proof(alloc, task, source, sink, rounds, unheard)
+                let none = NoneByProof {
+                    format: Hinted,
+                    listener,
+                };
+                run_over_both(alloc, task, source, sink, rounds, &none)
             }
         }
     }

@@ -14,7 +14,7 @@ use std::thread::Threads;
 use wf_core::Account;
 use wf_io::{Sink, Source};
 use wf_pool::{Gate, Open, solve_root};
-use wf_run::{RunFault, TaskAnswer, run_over_task};
+use wf_run::{Answered, RunFault, TaskAnswer, run_over_task};
 use wf_task::Task;
 
 /// Reads a task and writes the report about it, without an account. What is found and written is
@@ -46,12 +46,7 @@ impl TaskAnswer for WantedReport {
     ghost is_text = { λ wanted. IsFound wanted.form };
 
     /// What one search of the whole question finds. It starts no thread, and always returns.
-    fn of_task(
-        &self,
-        alloc: Global,
-        task: &Task,
-        rounds: u32,
-    ) -> Result<(Outcome, Vec<u8>), RunFault> {
+    fn of_task(&self, alloc: Global, task: &Task, rounds: u32) -> Answered<Outcome> {
         let (header, problem) = pose_problem(alloc, task, rounds, &Open)?;
         let wanted = WantedReport {
             rounds,

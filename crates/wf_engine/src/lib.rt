@@ -2,8 +2,7 @@
 //!
 //! - [`run_search`]: by one worker or by up to [`MAX_WORKERS`], as a [`Search`] says.
 //!   [`run_counted_search`] also gives an account of the branches.
-//! - [`run_solve`], [`run_solve_one`]: a search with an account and no gate, by some workers and by
-//!   one.
+//! - [`run_solve`]: a search with an account and no gate.
 //! - [`pose_problem`], [`lines_kept`], [`body_of_map`], [`report_text`]: steps for runs of other
 //!   crates.
 //!
@@ -23,7 +22,6 @@ pub use outcome::Outcome;
 pub use search::{OptionalGate, Search, WantedReport};
 pub use solve::{
     body_of_map, lines_kept, pose_problem, report_text, run_counted_search, run_solve,
-    run_solve_one,
 };
 pub use wf_lines::Form;
 pub use wf_pool::MAX_WORKERS;

@@ -26,7 +26,7 @@ use wf_io::{Sink, Source};
 use wf_lines::{Form, Lines};
 use wf_pool::{Answer, Gate, Inquiry, KeptLines, Open, solve, solve_one_watched};
 use wf_report::{Body, Header, Report};
-use wf_run::{RunFault, hand_out, read_task};
+use wf_run::{Answered, RunFault, hand_out, read_task};
 use wf_task::Task;
 
 /// How branches are handed to workers.
@@ -37,27 +37,10 @@ type Branches = Stealing;
 /// and then no function on the views is a decision map. In the verdict form the lines are left out,
 /// and in the least form a map comes with the lines of a certificate that none is smaller.
 ///
-/// The report is made whole before anything is written. The branches are searched in order, in this
-/// thread, and the call always returns.
-pub fn run_solve_one<R: Read, W: Write>(
-    alloc: Global,
-    source: &mut Source<R>,
-    sink: &mut Sink<W>,
-    rounds: u32,
-    form: Form,
-) -> Result<(Outcome, Account), RunFault>
-    requires { CanCount source.old sink.old }
-    ensures solves { Solves rounds form source.old source.new sink.old sink.new result }
-    ensures in_order { SearchesInOrder result }
-{
-    let wanted = WantedReport { rounds, form };
-    let answer = solve_source_one(alloc, source, wanted, &Open);
-    hand_out(sink, answer)
-}
-
-/// Reads a task and writes the report about it, as [`run_solve_one`] does, with the branches shared
-/// out among workers, which are threads if there are several. What is answered and written is the
-/// same for any number of them; which branches were searched is not.
+/// The report is made whole before anything is written. The branches are shared out among workers,
+/// which are threads if there are several. What is answered and written is the same for any number
+/// of them; which branches were searched is not. One worker searches the branches in order, in this
+/// thread, and then the call always returns.
 pub fn run_solve<T: Threads + Sync, R: Read, W: Write>(
     rt: &T,
     alloc: Global,
@@ -110,7 +93,7 @@ fn solve_source_one<G: Gate, R: Read>(
     source: &mut Source<R>,
     wanted: WantedReport,
     gate: &G,
-) -> Result<((Outcome, Account), Vec<u8>), RunFault>
+) -> Answered<(Outcome, Account)>
     requires { CanRead source.old }
     ensures asks { Asks (IsSolved wanted.form) wanted.rounds source.old source.new
         (answered result) }
@@ -126,7 +109,7 @@ fn solve_source<T: Threads + Sync, G: Gate, R: Read>(
     alloc: Global,
     source: &mut Source<R>,
     search: &Search<G>,
-) -> Result<((Outcome, Account), Vec<u8>), RunFault>
+) -> Answered<(Outcome, Account)>
     requires source { CanRead source.old }
     requires workers { (0 < search.now.workers) × (search.now.workers ≤ most_workers) }
     ensures { Asks (IsSolved search.now.wanted.form) search.now.wanted.rounds
@@ -142,7 +125,7 @@ fn solve_task_one<G: Gate>(
     task: &Task,
     wanted: WantedReport,
     gate: &G,
-) -> Result<((Outcome, Account), Vec<u8>), RunFault>
+) -> Answered<(Outcome, Account)>
     ensures answers { Answers (IsSolved wanted.form) task.now wanted.rounds (answered result) }
     ensures in_order { IfOk result (λ answer. IsInOrder answer.0) }
 {
@@ -158,7 +141,7 @@ fn solve_task<T: Threads + Sync, G: Gate>(
     alloc: Global,
     task: &Task,
     search: &Search<G>,
-) -> Result<((Outcome, Account), Vec<u8>), RunFault>
+) -> Answered<(Outcome, Account)>
     requires { (0 < search.now.workers) × (search.now.workers ≤ most_workers) }
     ensures { Answers (IsSolved search.now.wanted.form) task.now search.now.wanted.rounds
         (answered result) }

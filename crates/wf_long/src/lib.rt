@@ -1,8 +1,8 @@
 //! Checking a report while it is read, so that the report may be longer than memory.
 //!
-//! - [`run_verify_long`]: a task's text and a report's in, and what is accepted out. It answers as
-//!   the engine of `verify` does, for a report of any length up to [`MOST_REPORT_BYTES`] and
-//!   [`MOST_REPORT_LINES`].
+//! - [`AcceptedLongReport`]: what is accepted of a report, for
+//!   [`run_over_pair`](wf_run::run_over_pair). It is answered as the engine of `verify` answers,
+//!   for a report of any length up to [`MOST_REPORT_BYTES`] and [`MOST_REPORT_LINES`].
 //!
 //! The laws say what follows from the relation of that run alone: that what is accepted is true
 //! ([`long_acceptances_are_true`]), and what a run counts ([`long_verifying_is_counted`]).
@@ -22,5 +22,5 @@ mod verify;
 mod window;
 
 pub use laws::{long_acceptances_are_true, long_verifying_is_counted};
-pub use verify::run_verify_long;
+pub use verify::AcceptedLongReport;
 pub use window::{MOST_REPORT_BYTES, MOST_REPORT_LINES};

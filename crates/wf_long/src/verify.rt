@@ -1,11 +1,11 @@
 //! Checking a report about a task while it is read.
 
 ghost use Rattle.std.specs.Prelude.{◌≡◌, IfOk, OnOk, string_bytes, true};
+ghost use Rattle.std.specs.Thread.{IsSync};
 ghost use Rattle.wf_io.specs.Ends.{CanRead};
 ghost use Rattle.wf_run.specs.Run.{answered};
-ghost use Rattle.wf_run.specs.Sources.{CanReadBoth};
 ghost use Rattle.wf_long.specs.Judged.{IsPrepared, IsPreparedFor, IsTold, ReadsReport, accepted_if, text_of, words_of};
-ghost use Rattle.wf_long.specs.Long.{ChecksLong, ChecksLongFor, VerifiesLong};
+ghost use Rattle.wf_long.specs.Long.{ChecksLongFor};
 ghost use Rattle.wf_long.specs.Windows.{CanGive, untouched};
 
 use crate::body::{Judge, judge_body, skim_body};
@@ -13,60 +13,52 @@ use crate::front::{read_answer, read_header};
 use crate::halt::Halt;
 use crate::window::Window;
 use std::alloc::{AllocError, Global};
-use std::io::{Read, Write};
+use std::io::Read;
 use std::thread::Threads;
 use wf_check::judge_header;
 use wf_complex::Protocol;
-use wf_io::{Sink, Source};
+use wf_io::Source;
 use wf_report::{CertFault, Header};
-use wf_run::{RunFault, hand_out, read_task};
+use wf_run::{Answered, PairAnswer, RunFault};
 use wf_task::Task;
 use wf_verify_engine::Accepted;
 
-/// Reads a task to its reader's end, then a report about it to its own reader's end, checks the
-/// report while it is read, and writes what is accepted. It answers as the engine of `verify` does:
-/// the first bad line of the text comes before any other fault of the report.
+/// What is accepted of a report about a task, which is checked while it is read. It is answered as
+/// [`run_verify`](wf_verify_engine::run_verify) answers: the first bad line of the text comes
+/// before any other fault of the report.
 ///
 /// The report may have up to [`MOST_REPORT_BYTES`](crate::MOST_REPORT_BYTES) and
 /// [`MOST_REPORT_LINES`](crate::MOST_REPORT_LINES): no line of it is kept. What is kept is the
 /// protocol complex, the boxes that are open, the values of a map, and one piece of the text.
-pub fn run_verify_long<T: Threads + Sync, R: Read, C: Read, W: Write>(
-    rt: &T,
-    alloc: Global,
-    task_source: &mut Source<R>,
-    report_source: &mut Source<C>,
-    sink: &mut Sink<W>,
-    rounds: Option<u32>,
-) -> Result<Accepted, RunFault>
-    requires { CanReadBoth task_source.old report_source.old sink.old }
-    ensures { VerifiesLong rounds task_source.old task_source.new
-        report_source.old report_source.new sink.old sink.new result }
-{
-    let answer = ask_sources(rt, alloc, task_source, report_source, rounds);
-    hand_out(sink, answer)
+#[derive(Clone, Copy)]
+pub struct AcceptedLongReport<'a, T> {
+    /// What starts threads.
+    pub rt: &'a T,
+    /// The rounds that are asked for, if any are.
+    pub rounds: Option<u32>,
 }
 
-/// What is accepted of a source's report about another source's task, with the text that says so.
-fn ask_sources<T: Threads + Sync, R: Read, C: Read>(
-    rt: &T,
-    alloc: Global,
-    task_source: &mut Source<R>,
-    report_source: &mut Source<C>,
-    rounds: Option<u32>,
-) -> Result<(Accepted, Vec<u8>), RunFault>
-    requires task { CanRead task_source.old }
-    requires report { CanRead report_source.old }
-    ensures { ChecksLong rounds task_source.old task_source.new
-        report_source.old report_source.new (answered result) }
-{
-    let task = read_task(alloc, task_source)?;
-    let asked = Asked {
-        rt,
-        alloc,
-        task: &task,
-        rounds,
-    };
-    verify_source(&asked, report_source)
+impl<'a, T: Threads + Sync> PairAnswer for AcceptedLongReport<'a, T> {
+    type Answer = Accepted;
+
+    ghost is_ready = { λ _. IsSync T.row };
+
+    ghost asks = { λ accepted. ChecksLongFor accepted.rounds };
+
+    fn of_pair<C: Read>(
+        &self,
+        alloc: Global,
+        task: &Task,
+        source: &mut Source<C>,
+    ) -> Answered<Accepted> {
+        let asked = Asked {
+            rt: self.rt,
+            alloc,
+            task,
+            rounds: self.rounds,
+        };
+        verify_source(&asked, source)
+    }
 }
 
 /// What a report is read about.
@@ -83,7 +75,7 @@ struct Asked<'a, T> {
 fn verify_source<T: Threads + Sync, C: Read>(
     asked: &Asked<T>,
     source: &mut Source<C>,
-) -> Result<(Accepted, Vec<u8>), RunFault>
+) -> Answered<Accepted>
     requires { CanRead source.old }
     ensures { ChecksLongFor asked.now.rounds asked.now.task.now
         source.old source.new (answered result) }
@@ -165,7 +157,7 @@ fn told(
     alloc: Global,
     reported: Result<Accepted, RunFault>,
     rounds: Option<u32>,
-) -> Result<(Accepted, Vec<u8>), RunFault>
+) -> Answered<Accepted>
     ensures { IsTold rounds reported (answered result) }
 {
     let accepted = reported?;

@@ -13,7 +13,7 @@ use wf_finder::Listener;
 use wf_io::{Sink, Source};
 use wf_obstruction::ObstructionFault;
 use wf_obstruction_text::{Obstruction, write_obstruction};
-use wf_run::{RunFault, hand_out, read_task};
+use wf_run::{Answered, RunFault, hand_out, read_task};
 use wf_task::Task;
 use wf_verify_engine::{judge_obstruction, obstruction_of};
 
@@ -50,7 +50,7 @@ fn find_in_source<L: Listener, R: Read>(
     source: &mut Source<R>,
     modulus: Option<u32>,
     listener: &L,
-) -> Result<(Finding, Vec<u8>), RunFault>
+) -> Answered<Finding>
     requires { CanRead source.old }
     ensures { SeeksIn modulus source.old source.new (answered result) }
 {
@@ -64,7 +64,7 @@ fn find_in_task<L: Listener>(
     task: &Task,
     modulus: Option<u32>,
     listener: &L,
-) -> Result<(Finding, Vec<u8>), RunFault>
+) -> Answered<Finding>
     ensures { Answers modulus task.now (answered result) }
 {
     if task.first_block() != 1 {
@@ -79,12 +79,7 @@ fn find_in_task<L: Listener>(
 }
 
 /// The text of what was found, if the text is accepted.
-fn written(
-    alloc: Global,
-    task: &Task,
-    asked: Option<u32>,
-    found: &Obstruction,
-) -> Result<(Finding, Vec<u8>), RunFault>
+fn written(alloc: Global, task: &Task, asked: Option<u32>, found: &Obstruction) -> Answered<Finding>
     ensures { IsAnswer asked task.now (answered result) }
 {
     let text = write_obstruction(alloc, found)?;

@@ -12,15 +12,16 @@ use std::alloc::Global;
 use std::io::{Read, Write};
 use std::thread::Threads;
 use wf_args::Job;
-use wf_branches::{run_hinted_proof_branch, run_join, run_proof_branch, run_verify_branch};
+use wf_branches::{NoneInBranch, PartOfBranch, WholeOfParts};
 use wf_files::{Files, Opener, TaskRun, run_with_file, without_answer};
 use wf_io::{Sink, Source};
-use wf_long::run_verify_long;
-use wf_report_engine::{run_explain, run_lift, run_trim};
-use wf_run::RunFault;
+use wf_long::AcceptedLongReport;
+use wf_report_engine::{CertificateInWords, LiftedMap, ShorterReport};
+use wf_run::{RunFault, run_over_both, run_over_pair};
 use wf_service::{Refusal, as_file_refusal};
 use wf_verify_engine::{
-    ProofListener, run_decisions, run_hinted_proof, run_model, run_proof, run_verify_certificate,
+    AcceptedCertificate, Clausal, Hinted, MapInWords, MapOfModel, NoneByProof, ProofListener,
+    run_over_report,
 };
 
 /// A check of a solver's proof that there is no map after so many rounds, or none in the branch of
@@ -122,15 +123,43 @@ impl ProofJob {
         let told = if self.progress { Some(listener) } else { None };
         let rounds = self.rounds;
         match (self.branch, self.hints) {
-            (None, false) => run_proof(alloc, task, source, sink, rounds, told),
-            (None, true) => run_hinted_proof(alloc, task, source, sink, rounds, told),
+            (None, false) => {
+                let none = by_proof(Clausal, told);
+                run_over_both(alloc, task, source, sink, rounds, &none)
+            }
+            (None, true) => {
+                let none = by_proof(Hinted, told);
+                run_over_both(alloc, task, source, sink, rounds, &none)
+            }
             (Some(branch), false) => {
-                run_proof_branch(alloc, task, source, sink, rounds, branch, told)
+                let none = in_branch(Clausal, branch, told);
+                run_over_both(alloc, task, source, sink, rounds, &none)
             }
             (Some(branch), true) => {
-                run_hinted_proof_branch(alloc, task, source, sink, rounds, branch, told)
+                let none = in_branch(Hinted, branch, told);
+                run_over_both(alloc, task, source, sink, rounds, &none)
             }
         }
+    }
+}
+
+/// That there is no decision map, by a proof in this format. If there is a listener, it is told how
+/// the check goes on.
+fn by_proof<P, L>(format: P, listener: Option<&L>) -> NoneByProof<'_, P, L>
+    ensures { result.format ≡ format }
+{
+    NoneByProof { format, listener }
+}
+
+/// That there is none in the branch of this number.
+fn in_branch<P, L>(format: P, number: u32, listener: Option<&L>) -> NoneInBranch<'_, P, L>
+    ensures format { result.format ≡ format }
+    ensures number { result.number ≡ number }
+{
+    NoneInBranch {
+        format,
+        number,
+        listener,
     }
 }
 
@@ -174,29 +203,39 @@ impl<'a, T: Threads + Sync, L: ProofListener> TaskRun for FileRun<'a, T, L> {
         source: &mut Source<R>,
         sink: &mut Sink<W>,
     ) -> Result<(), RunFault> {
-        let FileRun {
-            rt,
-            alloc,
-            job,
-            listener,
-        } = *self;
-        match job {
-            FileJob::Verify(rounds) => without_answer(run_verify_certificate(
-                rt, alloc, task, source, sink, rounds,
-            )),
-            FileJob::VerifyLong(rounds) => without_answer(run_verify_long(
-                rt, alloc, task, source, sink, rounds,
-            )),
-            FileJob::VerifyBranch { rounds, branch } => {
-                run_verify_branch(rt, alloc, task, source, sink, rounds, branch)
+        let (rt, alloc) = (self.rt, self.alloc);
+        match self.job {
+            FileJob::Verify(rounds) => {
+                let accepted = AcceptedCertificate { rt, rounds };
+                without_answer(run_over_pair(alloc, task, source, sink, &accepted))
             }
-            FileJob::Join(rounds) => run_join(rt, alloc, task, source, sink, rounds),
-            FileJob::Model(rounds) => run_model(rt, alloc, task, source, sink, rounds),
-            FileJob::Proof(proof) => proof.check(alloc, task, source, sink, listener),
-            FileJob::Decisions => run_decisions(rt, alloc, task, source, sink),
-            FileJob::Trim => run_trim(rt, alloc, task, source, sink),
-            FileJob::Explain => run_explain(rt, alloc, task, source, sink),
-            FileJob::Lift(rounds) => run_lift(rt, alloc, task, source, sink, rounds),
+            FileJob::VerifyLong(rounds) => {
+                let accepted = AcceptedLongReport { rt, rounds };
+                without_answer(run_over_pair(alloc, task, source, sink, &accepted))
+            }
+            FileJob::VerifyBranch { rounds, branch } => {
+                let part = PartOfBranch { rt, number: branch };
+                run_over_both(alloc, task, source, sink, rounds, &part)
+            }
+            FileJob::Join(rounds) => {
+                run_over_both(alloc, task, source, sink, rounds, &WholeOfParts { rt })
+            }
+            FileJob::Model(rounds) => {
+                run_over_both(alloc, task, source, sink, rounds, &MapOfModel { rt })
+            }
+            FileJob::Proof(proof) => proof.check(alloc, task, source, sink, self.listener),
+            FileJob::Decisions => {
+                run_over_report(alloc, task, source, sink, None, &MapInWords { rt })
+            }
+            FileJob::Trim => {
+                run_over_report(alloc, task, source, sink, None, &ShorterReport { rt })
+            }
+            FileJob::Explain => {
+                run_over_pair(alloc, task, source, sink, &CertificateInWords { rt })
+            }
+            FileJob::Lift(rounds) => {
+                run_over_pair(alloc, task, source, sink, &LiftedMap { rt, rounds })
+            }
         }
     }
 }

@@ -5,8 +5,6 @@
 //! of them, and one relation (`specs/Program.antt`): the words were judged, what they ask for was
 //! done, no file was opened but the one that they name, and no more was told than a refusal, or a
 //! note: the account of a search if the words ask for it, or how a search for an obstruction ended.
-//!
-//! Beside it stands [`run_executions`]: a task's text in, and its executions in words out.
 #![tactic(auto)]
 
 mod done;
@@ -17,6 +15,5 @@ mod lone;
 mod program;
 mod texts;
 
-pub use executions::run_executions;
 pub use laws::serving_is_counted;
 pub use program::run_program;

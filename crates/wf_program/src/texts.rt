@@ -4,13 +4,16 @@ ghost use Rattle.std.specs.Prelude.{◌≡◌};
 ghost use Rattle.wf_io.specs.Ends.{CanCount};
 ghost use Rattle.wf_program.specs.Program.{ListsQuestion, WritesTextOf, text_of};
 
-use crate::executions::run_executions;
+use crate::executions::ExecutionList;
 use std::alloc::Global;
 use std::io::{Read, Write};
 use wf_args::Job;
-use wf_branches::{run_branches, run_cnf_branch};
+use wf_branches::{BranchList, BranchQuestion};
 use wf_io::{Sink, Source};
-use wf_run::{Preset, RunFault, run_cnf, run_points, run_preset, run_views};
+use wf_run::{
+    PointsInWords, Preset, QuestionText, RunFault, run_in_pieces, run_over_task, run_preset,
+    run_views,
+};
 
 /// A text that a job writes without a search: of the source's task, or of a preset.
 #[derive(Clone, Copy)]
@@ -57,10 +60,12 @@ impl TextJob {
     {
         match self {
             TextJob::Views(rounds) => run_views(alloc, source, sink, rounds),
-            TextJob::Points(rounds) => run_points(alloc, source, sink, rounds),
-            TextJob::Branches(rounds) => run_branches(alloc, source, sink, rounds),
+            TextJob::Points(rounds) => run_over_task(alloc, source, sink, rounds, &PointsInWords),
+            TextJob::Branches(rounds) => run_over_task(alloc, source, sink, rounds, &BranchList),
             TextJob::Cnf(rounds, branch) => write_question(alloc, source, sink, rounds, branch),
-            TextJob::Executions(rounds) => run_executions(alloc, source, sink, rounds),
+            TextJob::Executions(rounds) => {
+                run_in_pieces(alloc, source, sink, &ExecutionList { rounds })
+            }
             TextJob::Preset(preset) => run_preset(alloc, sink, preset),
         }
     }
@@ -78,7 +83,7 @@ fn write_question<R: Read, W: Write>(
     ensures { ListsQuestion branch rounds source.old source.new sink.old sink.new result }
 {
     match branch {
-        Some(branch) => run_cnf_branch(alloc, source, sink, rounds, branch),
-        None => run_cnf(alloc, source, sink, rounds),
+        Some(branch) => run_in_pieces(alloc, source, sink, &BranchQuestion { rounds, branch }),
+        None => run_in_pieces(alloc, source, sink, &QuestionText { rounds }),
     }
 }

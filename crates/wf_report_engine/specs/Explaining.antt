@@ -13,7 +13,8 @@ use Rattle.wf_check.specs.Truth.{HoldsOf}
 use Rattle.wf_argument.specs.Text.{argument_text}
 use Rattle.wf_obstruction_text.specs.Text.{Obstruction, begins_as_obstruction}
 use Rattle.wf_obstruction_words.specs.Words as obstruction
-use Rattle.wf_run.specs.Run.{IsTaskOf, Next, Ran, Reads}
+use Rattle.wf_run.specs.Run.{Next, Ran, Reads}
+use Rattle.wf_run.specs.Sources.{AsksPair, NextReads}
 use Rattle.wf_verify_engine.specs.Verify.{IsReportOf, IsVerified}
 use Rattle.wf_verify_engine.specs.Certificates.{IsObstructionOf, IsRefusalOf, IsSound}
 use Rattle.wf_run.specs.Given.{GaveTask}
@@ -58,11 +59,10 @@ ExplainsText t text result =
 
 -- the certificate is read where there is a task, and is else left alone
 abbrev pub ExplainsFor : Reading → Reading → Result Task RunFault → Result (Unit {0} × List ℕ) RunFault → Type 0
-ExplainsFor source source' (Ok t) result = Reads (ExplainsText t) source source' result
-ExplainsFor source source' (Err e) result = (result ≡ Err e) × (source' ≡ source)
+ExplainsFor source source' t result = NextReads (λ t. Reads (ExplainsText t)) source source' t result
 
 abbrev pub ExplainsBoth : Reading → Reading → Reading → Reading → Result (Unit {0} × List ℕ) RunFault → Type 0
-ExplainsBoth task task' source source' result = (t : Result Task RunFault) × Reads IsTaskOf task task' t × ExplainsFor source source' t result
+ExplainsBoth task task' source source' result = AsksPair (λ t. Reads (ExplainsText t)) task task' source source' result
 
 -- The certificate of a source was checked against the task of another one, and it was explained.
 abbrev pub Explains : Reading → Reading → Reading → Reading → Writing → Writing → Result (Unit {0}) RunFault → Type 0

@@ -7,8 +7,8 @@ use Rattle.wf_model.specs.Report.{Report, Body, a_map, none, least}
 use Rattle.wf_io.specs.Seen.{Reading, Writing}
 use Rattle.wf_complex.specs.Protocol.{Built}
 use Rattle.wf_trim.specs.Lift.{lifted_by}
-use Rattle.wf_run.specs.Run.{HasComplex, IsBeyondLimits, IsTaskOf, Next, Ran, Reads}
-use Rattle.wf_run.specs.Sources.{NextReads}
+use Rattle.wf_run.specs.Run.{HasComplex, IsBeyondLimits, Next, Ran, Reads}
+use Rattle.wf_run.specs.Sources.{AsksPair}
 use Rattle.wf_run.specs.Texts.{text_of_report}
 use Rattle.wf_verify_engine.specs.Verify.{IsReportOf, Judges}
 use Rattle.wf_run.specs.declared.fault.RunFault.{RunFault}
@@ -56,7 +56,7 @@ ReadsToLift rounds t old new made =
 -- the task is read before that
 abbrev pub AsksLift : Option ℕ → Reading → Reading → Reading → Reading → Made → Type 0
 AsksLift rounds task task' reports reports' made =
-    (t : Result Task RunFault) × Reads IsTaskOf task task' t × NextReads (ReadsToLift rounds) reports reports' t made
+    AsksPair (ReadsToLift rounds) task task' reports reports' made
 
 -- The map of a source's report about another source's task was lifted to the rounds that are asked
 -- for, or to one more, and the report of the lifted map was written.

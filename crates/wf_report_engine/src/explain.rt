@@ -2,89 +2,56 @@
 //! after any number of rounds.
 
 ghost use Rattle.std.specs.Prelude.{◌≡◌, IfOk};
-ghost use Rattle.wf_io.specs.Ends.{CanRead};
+ghost use Rattle.std.specs.Thread.{IsSync};
 ghost use Rattle.wf_complex.specs.Protocol.{IsProtocol};
 ghost use Rattle.wf_report.specs.Reports.{AreNumbered, body_length, body_of, report_seen};
 ghost use Rattle.wf_obstruction_text.specs.Seen.{obstruction_seen};
 ghost use Rattle.wf_run.specs.Run.{Reads, answered};
-ghost use Rattle.wf_run.specs.Sources.{CanReadBoth};
 ghost use Rattle.wf_verify_engine.specs.Verify.{IsVerified};
-ghost use Rattle.wf_report_engine.specs.Explaining.{AreExplained, Explains, ExplainsBoth, ExplainsObstruction, ExplainsReport, ExplainsText, TellsObstruction, body_explained};
+ghost use Rattle.wf_report_engine.specs.Explaining.{AreExplained, ExplainsObstruction, ExplainsReport, ExplainsText, TellsObstruction, body_explained};
 
 use crate::trim::shortened;
 use std::alloc::{AllocError, Global};
-use std::io::{Read, Write};
+use std::io::Read;
 use std::thread::Threads;
 use wf_argument::write_argument;
 use wf_complex::Protocol;
-use wf_io::{Sink, Source, read_all};
+use wf_io::{Source, read_all};
 use wf_obstruction_text::{Obstruction, is_obstruction_text};
 use wf_obstruction_words::write_obstruction_argument;
 use wf_report::{Body, Report};
-use wf_run::{RunFault, hand_out, read_task, write_points};
+use wf_run::{Answered, PairAnswer, write_points};
 use wf_task::{LONGEST, Task};
 use wf_verify_engine::{check_report, judge_obstruction, obstruction_of, report_of};
 
-/// Reads a task and a certificate about it, and checks the certificate, as
-/// [`run_verify_certificate`](wf_verify_engine::run_verify_certificate) does. Then it writes in
-/// words what the certificate says:
+/// A certificate in words, which is checked as
+/// [`AcceptedCertificate`](wf_verify_engine::AcceptedCertificate) checks it:
 ///
 /// - a report with a map: the points of the protocol complex with what the map decides at each;
 /// - a report that there is no map: the argument that its lines make, without those that are not
 ///   needed;
 /// - an obstruction: why there is no map after any number of rounds.
-pub fn run_explain<T: Threads + Sync, R: Read, C: Read, W: Write>(
-    rt: &T,
-    alloc: Global,
-    task_source: &mut Source<R>,
-    source: &mut Source<C>,
-    sink: &mut Sink<W>,
-) -> Result<(), RunFault>
-    requires { CanReadBoth task_source.old source.old sink.old }
-    ensures { Explains task_source.old task_source.new source.old source.new
-        sink.old sink.new result }
-{
-    let answer = explain_sources(rt, alloc, task_source, source);
-    hand_out(sink, answer)
+#[derive(Clone, Copy)]
+pub struct CertificateInWords<'a, T> {
+    /// What starts threads.
+    pub rt: &'a T,
 }
 
-/// The certificate of a source in words, if it is about another source's task.
-fn explain_sources<T: Threads + Sync, R: Read, C: Read>(
-    rt: &T,
-    alloc: Global,
-    task_source: &mut Source<R>,
-    source: &mut Source<C>,
-) -> Result<((), Vec<u8>), RunFault>
-    requires task { CanRead task_source.old }
-    requires certificate { CanRead source.old }
-    ensures { ExplainsBoth task_source.old task_source.new source.old source.new
-        (answered result) }
-{
-    let task = read_task(alloc, task_source)?;
-    explain_source(rt, alloc, &task, source)
-}
+impl<'a, T: Threads + Sync> PairAnswer for CertificateInWords<'a, T> {
+    type Answer = ();
 
-/// The certificate of a source in words, if it is about the task.
-fn explain_source<T: Threads + Sync, C: Read>(
-    rt: &T,
-    alloc: Global,
-    task: &Task,
-    source: &mut Source<C>,
-) -> Result<((), Vec<u8>), RunFault>
-    requires { CanRead source.old }
-    ensures { Reads (ExplainsText task.now) source.old source.new (answered result) }
-{
-    let text = read_all(alloc, source, LONGEST)?;
-    explain_text(rt, alloc, task, &text)
+    ghost is_ready = { λ _. IsSync T.row };
+
+    ghost asks = { λ words t. Reads (ExplainsText t) };
+
+    fn of_pair<C: Read>(&self, alloc: Global, task: &Task, source: &mut Source<C>) -> Answered<()> {
+        let text = read_all(alloc, source, LONGEST)?;
+        explain_text(self.rt, alloc, task, &text)
+    }
 }
 
 /// The certificate of a text in words, if it is about the task.
-fn explain_text<T: Threads + Sync>(
-    rt: &T,
-    alloc: Global,
-    task: &Task,
-    text: &[u8],
-) -> Result<((), Vec<u8>), RunFault>
+fn explain_text<T: Threads + Sync>(rt: &T, alloc: Global, task: &Task, text: &[u8]) -> Answered<()>
     ensures { ExplainsText task.now text.now (answered result) }
 {
     if is_obstruction_text(text) {
@@ -95,7 +62,7 @@ fn explain_text<T: Threads + Sync>(
 }
 
 /// The obstruction of a text in words, if it is one of the task.
-fn explain_obstruction(alloc: Global, task: &Task, text: &[u8]) -> Result<((), Vec<u8>), RunFault>
+fn explain_obstruction(alloc: Global, task: &Task, text: &[u8]) -> Answered<()>
     ensures { ExplainsObstruction task.now text.now (answered result) }
 {
     let obstruction = obstruction_of(alloc, text)?;
@@ -103,11 +70,7 @@ fn explain_obstruction(alloc: Global, task: &Task, text: &[u8]) -> Result<((), V
 }
 
 /// An obstruction in words, if it is one of the task.
-fn tell_obstruction(
-    alloc: Global,
-    task: &Task,
-    obstruction: &Obstruction,
-) -> Result<((), Vec<u8>), RunFault>
+fn tell_obstruction(alloc: Global, task: &Task, obstruction: &Obstruction) -> Answered<()>
     ensures { TellsObstruction task.now (obstruction_seen obstruction.now) (answered result) }
 {
     judge_obstruction(alloc, task, obstruction)?;
@@ -120,7 +83,7 @@ fn explain_report<T: Threads + Sync>(
     alloc: Global,
     task: &Task,
     text: &[u8],
-) -> Result<((), Vec<u8>), RunFault>
+) -> Answered<()>
     ensures { ExplainsReport task.now text.now (answered result) }
 {
     let report = report_of(alloc, text)?;
@@ -133,7 +96,7 @@ fn tell_report<T: Threads + Sync>(
     alloc: Global,
     task: &Task,
     report: Report,
-) -> Result<((), Vec<u8>), RunFault>
+) -> Answered<()>
     requires { AreNumbered (body_length report.body) }
     ensures { IsVerified AreExplained task.now (report_seen report) (answered result) }
 {

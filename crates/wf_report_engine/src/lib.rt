@@ -2,9 +2,11 @@
 //! exactly as `verify` does, with the same refusals in the same order, before they make anything of
 //! it. They stand on nothing of the search.
 //!
-//! - [`run_trim`]: the report with the lines that are needed out.
-//! - [`run_explain`]: the certificate in words out.
-//! - [`run_lift`]: the report of the map for more rounds out.
+//! - [`ShorterReport`]: the report with the lines that are needed, for
+//!   [`run_over_report`](wf_verify_engine::run_over_report).
+//! - [`CertificateInWords`]: the certificate in words, for
+//!   [`run_over_pair`](wf_run::run_over_pair).
+//! - [`LiftedMap`]: the report of the map for more rounds, for the same.
 #![tactic(auto)]
 
 mod explain;
@@ -14,9 +16,9 @@ mod lift_laws;
 mod trim;
 mod trim_laws;
 
-pub use explain::run_explain;
+pub use explain::CertificateInWords;
 pub use explain_laws::{explaining_is_counted, explanations_are_true};
-pub use lift::run_lift;
+pub use lift::LiftedMap;
 pub use lift_laws::{lifting_is_counted, lifts_are_accepted, lifts_are_true};
-pub use trim::run_trim;
+pub use trim::ShorterReport;
 pub use trim_laws::{trimmed_reports_are_accepted, trimming_is_counted};

@@ -1,68 +1,53 @@
 //! Lifting a report's map to more rounds.
 
 ghost use Rattle.std.specs.Prelude.{◌≡◌, ◌≤◌, Ok};
+ghost use Rattle.std.specs.Thread.{IsSync};
 ghost use Rattle.wf_model.specs.Limits.{most_rounds};
 ghost use Rattle.wf_model.specs.Report.{a_map};
-ghost use Rattle.wf_io.specs.Ends.{CanRead};
 ghost use Rattle.wf_complex.specs.Protocol.{Builds};
 ghost use Rattle.wf_report.specs.Reports.{AreNumbered, body_length, body_of, report_seen};
 ghost use Rattle.wf_check.specs.Truth.{HoldsOf};
 ghost use Rattle.wf_run.specs.Run.{answered};
-ghost use Rattle.wf_run.specs.Sources.{CanReadBoth};
-ghost use Rattle.wf_report_engine.specs.Lifting.{AsksLift, Lifts, LiftsBody, LiftsChecked, LiftsFor, LiftsMap, rounds_asked};
+ghost use Rattle.wf_report_engine.specs.Lifting.{LiftsBody, LiftsChecked, LiftsFor, LiftsMap, ReadsToLift, rounds_asked};
 
 use std::alloc::Global;
-use std::io::{Read, Write};
+use std::io::Read;
 use std::thread::Threads;
 use wf_complex::Protocol;
-use wf_io::{Sink, Source};
+use wf_io::Source;
 use wf_report::{Body, Header, Report, write_report};
-use wf_run::{RunFault, hand_out, read_task};
+use wf_run::{Answered, PairAnswer, RunFault};
 use wf_task::Task;
 use wf_trim::lift_values;
 use wf_verify_engine::{check_report, read_report_from};
 
-/// Reads a task and a report about it, and checks the report, as
-/// [`run_verify`](wf_verify_engine::run_verify) does; then it writes the report of the report's map
-/// lifted to the rounds that are asked for, or to one round more: each point decides what its own
-/// view of the rounds before decides.
+/// The report of a report's map lifted to the rounds that are asked for, or to one round more: each
+/// point decides what its own view of the rounds before decides. The report is checked as
+/// [`run_verify`](wf_verify_engine::run_verify) checks it.
 ///
 /// A report for more rounds than are asked for is refused before it is checked (`36 OtherRounds`);
 /// one that says that there is no map, after it was accepted (`43 NoMap`); and then the limits are
 /// judged for the rounds that are asked for (16, 17), before anything is lifted. The lines of a
 /// least map are left out: lifted, it need not be the least.
-pub fn run_lift<T: Threads + Sync, R: Read, C: Read, W: Write>(
-    rt: &T,
-    alloc: Global,
-    task_source: &mut Source<R>,
-    report_source: &mut Source<C>,
-    sink: &mut Sink<W>,
-    rounds: Option<u32>,
-) -> Result<(), RunFault>
-    requires { CanReadBoth task_source.old report_source.old sink.old }
-    ensures { Lifts rounds task_source.old task_source.new report_source.old report_source.new
-        sink.old sink.new result }
-{
-    let answer = lift_sources(rt, alloc, task_source, report_source, rounds);
-    hand_out(sink, answer)
+#[derive(Clone, Copy)]
+pub struct LiftedMap<'a, T> {
+    /// What starts threads.
+    pub rt: &'a T,
+    /// The rounds that are asked for, if any are.
+    pub rounds: Option<u32>,
 }
 
-/// The report of a lifted map, from the report of a source about another source's task.
-fn lift_sources<T: Threads + Sync, R: Read, C: Read>(
-    rt: &T,
-    alloc: Global,
-    task_source: &mut Source<R>,
-    report_source: &mut Source<C>,
-    rounds: Option<u32>,
-) -> Result<((), Vec<u8>), RunFault>
-    requires task { CanRead task_source.old }
-    requires report { CanRead report_source.old }
-    ensures { AsksLift rounds task_source.old task_source.new report_source.old report_source.new
-        (answered result) }
-{
-    let task = read_task(alloc, task_source)?;
-    let report = read_report_from(alloc, report_source)?;
-    lift(rt, alloc, &task, &report, rounds)
+impl<'a, T: Threads + Sync> PairAnswer for LiftedMap<'a, T> {
+    type Answer = ();
+
+    ghost is_ready = { λ _. IsSync T.row };
+
+    ghost asks = { λ lifted. ReadsToLift lifted.rounds };
+
+    fn of_pair<C: Read>(&self, alloc: Global, task: &Task, source: &mut Source<C>) -> Answered<()> {
+        let report = read_report_from(alloc, source)?;
+        lift(self.rt, alloc, task, &report, self.rounds)
+    }
 }
 
 /// The report of a lifted map. A report for more rounds than are asked for is refused.
@@ -72,7 +57,7 @@ fn lift<T: Threads + Sync>(
     task: &Task,
     report: &Report,
     rounds: Option<u32>,
-) -> Result<((), Vec<u8>), RunFault>
+) -> Answered<()>
     requires { AreNumbered (body_length report.now.body) }
     ensures { LiftsFor rounds task.now (report_seen report.now) (answered result) }
 {
@@ -89,7 +74,7 @@ fn lift_checked<T: Threads + Sync>(
     task: &Task,
     report: &Report,
     rounds: Option<u32>,
-) -> Result<((), Vec<u8>), RunFault>
+) -> Answered<()>
     requires few { AreNumbered (body_length report.now.body) }
     requires more { report.now.header.rounds ≤ rounds_asked rounds report.now.header.rounds }
     ensures { LiftsChecked (rounds_asked rounds report.now.header.rounds)
@@ -118,7 +103,7 @@ fn lift_body(
     protocol: &Protocol,
     body: &Body,
     rounds: u32,
-) -> Result<((), Vec<u8>), RunFault>
+) -> Answered<()>
     requires protocol { Builds task.now protocol.now.rounds (Ok protocol.now) }
     requires more { protocol.now.rounds ≤ rounds }
     requires holds { HoldsOf task.now protocol.now.rounds (body_of body.now) }
@@ -139,7 +124,7 @@ fn lift_map(
     protocol: &Protocol,
     values: &[u8],
     rounds: u32,
-) -> Result<((), Vec<u8>), RunFault>
+) -> Answered<()>
     requires protocol { Builds task.now protocol.now.rounds (Ok protocol.now) }
     requires more { protocol.now.rounds ≤ rounds }
     requires map { HoldsOf task.now protocol.now.rounds (a_map values.now) }

@@ -5,52 +5,27 @@ ghost use Rattle.std.specs.Thread.{IsSync};
 ghost use Rattle.wf_complex.specs.Protocol.{IsProtocol};
 ghost use Rattle.wf_lines.specs.Lines.{line_of};
 ghost use Rattle.wf_report.specs.Reports.{AreNumbered, body_length, report_seen};
-ghost use Rattle.wf_run.specs.Sources.{CanReadBoth};
 ghost use Rattle.wf_verify_engine.specs.Verify.{IsFaultless};
-ghost use Rattle.wf_report_engine.specs.Trimming.{AreTrimmed, IsShortened, Trims, report_with};
+ghost use Rattle.wf_report_engine.specs.Trimming.{AreTrimmed, IsShortened, report_with};
 
 use std::alloc::{AllocError, Global};
-use std::io::{Read, Write};
 use std::thread::Threads;
 use wf_check::check;
 use wf_complex::Protocol;
-use wf_io::{Sink, Source};
 use wf_lines::Lines;
 use wf_report::{Body, CertFault, Report};
-use wf_run::RunFault;
+use wf_run::Answered;
 use wf_task::Task;
 use wf_trim::trim;
-use wf_verify_engine::{ReportAnswer, check_report, run_over_report};
+use wf_verify_engine::{ReportAnswer, check_report};
 
-/// Reads a task and a report about it, and checks the report, as
-/// [`run_verify`](wf_verify_engine::run_verify) does; then it writes a report about
-/// the same task and rounds with the same answer and some of the lines, which
-/// is accepted too: of a map the report that was read.
-pub fn run_trim<T: Threads + Sync, R: Read, C: Read, W: Write>(
-    rt: &T,
-    alloc: Global,
-    task_source: &mut Source<R>,
-    report_source: &mut Source<C>,
-    sink: &mut Sink<W>,
-) -> Result<(), RunFault>
-    requires { CanReadBoth task_source.old report_source.old sink.old }
-    ensures { Trims task_source.old task_source.new report_source.old report_source.new
-        sink.old sink.new result }
-{
-    run_over_report(
-        alloc,
-        task_source,
-        report_source,
-        sink,
-        None,
-        &ShorterReport { rt },
-    )
-}
-
-/// A shorter report.
+/// A shorter report: about the same task and rounds, with the same answer and some of the lines.
+/// The report is checked as [`run_verify`](wf_verify_engine::run_verify) checks it, and the shorter
+/// one is accepted too. Of a report with a map, it is the report that was read.
 #[derive(Clone, Copy)]
-struct ShorterReport<'a, T> {
-    rt: &'a T,
+pub struct ShorterReport<'a, T> {
+    /// What starts threads.
+    pub rt: &'a T,
 }
 
 impl<'a, T: Threads + Sync> ReportAnswer for ShorterReport<'a, T> {
@@ -60,12 +35,7 @@ impl<'a, T: Threads + Sync> ReportAnswer for ShorterReport<'a, T> {
 
     ghost is_text = { λ shorter. AreTrimmed };
 
-    fn of_report(
-        &self,
-        alloc: Global,
-        task: &Task,
-        report: Report,
-    ) -> Result<((), Vec<u8>), RunFault> {
+    fn of_report(&self, alloc: Global, task: &Task, report: Report) -> Answered<()> {
         let protocol = check_report(self.rt, alloc, task, &report)?;
         let shorter = shortened(self.rt, alloc, task, &protocol, report)?;
         Ok(((), shorter.into_text(alloc)?))

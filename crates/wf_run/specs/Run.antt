@@ -67,10 +67,14 @@ abbrev pub Answers : {X : Type 0} → (Task → ℕ → X → List ℕ → Type 
 Answers is_text t r (Ok answer) = HasComplex t r × is_text t r answer.0 answer.1
 Answers is_text t r (Err e) = IsBeyondLimits t r e
 
+-- what is answered about the source's task
+abbrev pub AsksOfTask : {X : Type 0} → (Task → Result (X × List ℕ) RunFault → Type 0) → Reading → Reading → Result (X × List ℕ) RunFault → Type 0
+AsksOfTask answers old new result =
+    (task : Result Task RunFault) × Reads IsTaskOf old new task × Next answers task result
+
 -- the answer for the source's task and r rounds
 abbrev pub Asks : {X : Type 0} → (Task → ℕ → X → List ℕ → Type 0) → ℕ → Reading → Reading → Result (X × List ℕ) RunFault → Type 0
-Asks is_text r old new result =
-    (task : Result Task RunFault) × Reads IsTaskOf old new task × Next (λ t. Answers is_text t r) task result
+Asks is_text r old new result = AsksOfTask (λ t. Answers is_text t r) old new result
 
 -- ---- from an answer to a sink
 

@@ -27,10 +27,15 @@ abbrev pub AsksWithin : ReadsAbout → ℕ → Task → Reading → Reading → 
 AsksWithin reads r t old new result =
     (built : Result Built RunFault) × IsComplexOf t r built × NextReads (λ b. reads t r) old new built result
 
--- the task is read before that
+-- the task is read, and then the other source about the task; if there is no task, the other source
+-- is left alone
+abbrev pub AsksPair : {X : Type 0} → (Task → Reading → Reading → Result (X × List ℕ) RunFault → Type 0) → Reading → Reading → Reading → Reading → Result (X × List ℕ) RunFault → Type 0
+AsksPair asks task task' other other' result =
+    (t : Result Task RunFault) × Reads IsTaskOf task task' t × NextReads asks other other' t result
+
+-- the limits are judged between the two
 abbrev pub AsksBoth : ReadsAbout → ℕ → Reading → Reading → Reading → Reading → Result (Unit {0} × List ℕ) RunFault → Type 0
-AsksBoth reads r task task' other other' result =
-    (t : Result Task RunFault) × Reads IsTaskOf task task' t × NextReads (AsksWithin reads r) other other' t result
+AsksBoth reads r task task' other other' result = AsksPair (AsksWithin reads r) task task' other other' result
 
 -- all three ends can count what a run asks of them
 abbrev pub CanReadBoth : Reading → Reading → Writing → Type 0

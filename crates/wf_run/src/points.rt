@@ -2,44 +2,28 @@
 
 ghost use Rattle.std.specs.Prelude.{◌≡◌, ◌++◌, ◌<◌, IfOk, OnOk, string_bytes, length, slice_get};
 ghost use Rattle.wf_model.specs.PointsText.{decision_text, point_text, points_text};
-ghost use Rattle.wf_io.specs.Ends.{CanCount};
 ghost use Rattle.wf_complex.specs.Views.{view_at};
 ghost use Rattle.wf_complex.specs.Protocol.{IsProtocol};
-ghost use Rattle.wf_run.specs.Texts.{IsTextOf, Lists, undecided_points};
+ghost use Rattle.wf_run.specs.Texts.{IsTextOf, undecided_points};
 
-use crate::fault::RunFault;
-use crate::frames::{TaskAnswer, run_over_task};
+use crate::frames::TaskAnswer;
+use crate::steps::Answered;
 use std::alloc::{AllocError, Global};
 use std::fmt::Write as _;
-use std::io::{Read, Write};
 use wf_complex::{Protocol, put_view};
-use wf_io::{Sink, Source};
 use wf_task::Task;
 
-/// Reads a task to the reader's end and tells the points of its protocol complex after some rounds
-/// in words, a line for each: who saw what, down to the inputs.
-pub fn run_points<R: Read, W: Write>(
-    alloc: Global,
-    source: &mut Source<R>,
-    sink: &mut Sink<W>,
-    rounds: u32,
-) -> Result<(), RunFault>
-    requires { CanCount source.old sink.old }
-    ensures { Lists undecided_points rounds source.old source.new sink.old sink.new result }
-{
-    run_over_task(alloc, source, sink, rounds, &PointsInWords)
-}
-
-/// The points in words.
+/// The points of a task's protocol complex in words, a line for each: who saw what, down to the
+/// inputs.
 #[derive(Clone, Copy)]
-struct PointsInWords;
+pub struct PointsInWords;
 
 impl TaskAnswer for PointsInWords {
     type Answer = ();
 
     ghost is_text = { λ words. IsTextOf undecided_points };
 
-    fn of_task(&self, alloc: Global, task: &Task, rounds: u32) -> Result<((), Vec<u8>), RunFault> {
+    fn of_task(&self, alloc: Global, task: &Task, rounds: u32) -> Answered<()> {
         let protocol = Protocol::build(alloc, task, rounds)?;
         Ok(((), write_points(alloc, task, &protocol, &[])?))
     }

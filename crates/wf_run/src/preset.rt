@@ -7,7 +7,7 @@ ghost use Rattle.wf_run.specs.Run.{answered};
 ghost use Rattle.wf_run.specs.Presets.{IsPreset, WritesPreset};
 
 use crate::fault::RunFault;
-use crate::steps::hand_out;
+use crate::steps::{Answered, hand_out};
 use std::alloc::{AllocError, Global};
 use std::io::Write;
 use wf_io::Sink;
@@ -29,7 +29,7 @@ pub fn run_preset<W: Write>(
 }
 
 /// The text of a preset.
-fn preset_text(alloc: Global, preset: Preset) -> Result<((), Vec<u8>), RunFault>
+fn preset_text(alloc: Global, preset: Preset) -> Answered<()>
     ensures { IsPreset preset (answered result) }
 {
     let task = preset.task(alloc)?;

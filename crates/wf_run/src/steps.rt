@@ -9,6 +9,12 @@ use std::io::{Read, Write};
 use wf_io::{Sink, Source, read_all, write_whole};
 use wf_task::{LONGEST, Task};
 
+/// An answer with its text, or why there is none.
+pub type Answered<A> = Result<(A, Vec<u8>), RunFault>;
+
+/// That a text was written, or why not.
+pub type Written = Result<(), RunFault>;
+
 /// Reads a task to its reader's end, as the first step of each run. It is refused where its text is
 /// none, as [`Task::read_text`] says, or `30 Read`.
 pub fn read_task<R: Read>(alloc: Global, source: &mut Source<R>) -> Result<Task, RunFault>
@@ -27,10 +33,7 @@ fn task_of_text(alloc: Global, text: &[u8]) -> Result<Task, RunFault>
 }
 
 /// Writes the text of an answer, and gives the answer. The text of a refusal is not written.
-pub fn hand_out<X: Drop, W: Write>(
-    sink: &mut Sink<W>,
-    answer: Result<(X, Vec<u8>), RunFault>,
-) -> Result<X, RunFault>
+pub fn hand_out<X: Drop, W: Write>(sink: &mut Sink<W>, answer: Answered<X>) -> Result<X, RunFault>
     requires { CanWrite sink.old }
     ensures { Hands sink.old sink.new (answered answer) result }
 {

@@ -12,6 +12,7 @@ ghost use Rattle.wf_run.specs.Views.{header_text, appearances_text};
 
 use crate::fault::RunFault;
 use crate::frames::{TaskAnswer, run_over_task};
+use crate::steps::Answered;
 use std::alloc::{AllocError, Global};
 use std::fmt::Write as _;
 use std::io::{Read, Write};
@@ -43,7 +44,7 @@ impl TaskAnswer for PointList {
 
     ghost is_text = { λ list. IsTextOf views_text };
 
-    fn of_task(&self, alloc: Global, task: &Task, rounds: u32) -> Result<((), Vec<u8>), RunFault> {
+    fn of_task(&self, alloc: Global, task: &Task, rounds: u32) -> Answered<()> {
         let protocol = Protocol::build(alloc, task, rounds)?;
         Ok(((), write_views(alloc, task, &protocol)?))
     }

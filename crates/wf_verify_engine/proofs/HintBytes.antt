@@ -8,13 +8,17 @@ use Rattle.wf_lrat_text.specs.Text.{End, State, Step, Text, addition, broken_in,
 use Rattle.wf_lrat.specs.Fed.{IsReadTo, IsRefusedFor, Outcome, by_end, by_step, by_steps, by_verdict, closed_in, outcome_at_end, outcome_of, proof_start, reads, refuses, refutes, unless_refuted}
 use Rattle.wf_lrat.specs.Hints.{verdict_of}
 use Rattle.wf_lrat.specs.Ledger.{Ledger, deleted, learned}
+use Rattle.wf_lrat.specs.Models.{HasNoModel, KeepsSatisfiable}
 use Rattle.wf_lrat.specs.declared.verdict.HintVerdict.{HintVerdict}
 use Rattle.wf_lrat.specs.declared.verdict.HintVerdict.TheVariants as verdict
 use Rattle.wf_lrat.specs.declared.proof.HintFault.{HintFault}
 use Rattle.wf_lrat.specs.declared.proof.HintFault.TheVariants as hints
 use Rattle.wf_lrat.proofs.FedLemmas.{refuted_outcome}
+use Rattle.wf_lrat.proofs.ModelLemmas.{no_model_before, satisfiable_on, satisfiable_same}
 use Rattle.wf_lrat.proofs.PieceLemmas.{outcome-pieces, resumed}
-use Rattle.wf_verify_engine.specs.Hints.{AreRefusedHints, IsFaultOfHints, IsRefuted, closed, outcome_so_far, whole_outcome}
+use Rattle.wf_verify_engine.specs.Hints.{AreAcceptedHints, AreRefusedHints, IsFaultOfHints, IsRefuted, closed, outcome_so_far, whole_outcome}
+use Rattle.wf_verify_engine.specs.Readers.{HasReadHints}
+use Rattle.wf_verify_engine.specs.Proofs.{IsFaultFor}
 use Rattle.wf_run.specs.Faults.{of_hints}
 
 -- ---- outcomes that differ
@@ -65,12 +69,7 @@ found_stays text other l found e = refuted_outcome other found (steps_known text
 
 -- ---- piece by piece
 
--- what was read so far of a proof about some clauses: the text is read here, and the checker
--- knows this
-abbrev pub IsFedTo : Ledger → List ℕ → State → Ledger → Type 0
-IsFedTo posed given state left = IsReadTo (outcome_so_far posed given) state left
-
-pub none_fed : (posed : Ledger) (state : State) → state ≡ proof_start posed.variables → IsFedTo posed [] state posed
+none_fed : (posed : Ledger) (state : State) → state ≡ proof_start posed.variables → IsReadTo (outcome_so_far posed []) state posed
 none_fed posed state same = elim (cases_Bool posed.is_refuted) [
   | inl found ↦ inr (ap (λ b. if b then refutes posed else reads (proof_start posed.variables) posed) found)
   | inr unfound ↦ inl (ap (λ b. if b then refutes posed else reads (proof_start posed.variables) posed) unfound ∙ ap (λ s. reads s posed) (sym same))
@@ -78,27 +77,31 @@ none_fed posed state same = elim (cases_Bool posed.is_refuted) [
 
 module _ (posed : Ledger) (given : List ℕ) (state : State) (left : Ledger) where
   -- what further bytes come to, by where the text is read
-  further : (more : List ℕ) → IsFedTo posed given state left → outcome_so_far posed (given ++ more) ≡ outcome_of (text_of state more) left
+  further : (more : List ℕ) → IsReadTo (outcome_so_far posed given) state left → outcome_so_far posed (given ++ more) ≡ outcome_of (text_of state more) left
   further more (inl e) = outcome-pieces (proof_start posed.variables) given more posed ∙ ap (resumed more) e
   further more (inr e) =
       outcome-pieces (proof_start posed.variables) given more posed ∙ ap (resumed more) e ∙ sym (found_stays (text_of (proof_start posed.variables) given) (text_of state more) posed left e)
 
-  pub more_fed : (piece : List ℕ) (state' : State) (left' : Ledger) → IsFedTo posed given state left → IsReadTo (outcome_of (text_of state piece) left) state' left' → IsFedTo posed (given ++ piece) state' left'
+  more_fed : (piece : List ℕ) (state' : State) (left' : Ledger) → IsReadTo (outcome_so_far posed given) state left → IsReadTo (outcome_of (text_of state piece) left) state' left' → IsReadTo (outcome_so_far posed (given ++ piece)) state' left'
   more_fed piece state' left' fed (inl e) = inl (further piece fed ∙ e)
   more_fed piece state' left' fed (inr e) = inr (further piece fed ∙ e)
 
   -- what the whole comes to where there is nothing more
-  whole : IsFedTo posed given state left → whole_outcome posed given ≡ outcome_at_end state left
+  whole : IsReadTo (outcome_so_far posed given) state left → whole_outcome posed given ≡ outcome_at_end state left
   whole (inl e) = ap closed e
   whole (inr e) = ap closed e ∙ sym (ap (closed_in state.line) (found_stays (text_of (proof_start posed.variables) given) (text_of state (10 ∷ [])) posed left e))
 
-  pub whole_refuted : (new : Ledger) → IsFedTo posed given state left → outcome_at_end state left ≡ refutes new → IsRefuted (whole_outcome posed given)
+  whole_refuted : (new : Ledger) → IsReadTo (outcome_so_far posed given) state left → outcome_at_end state left ≡ refutes new → IsRefuted (whole_outcome posed given)
   whole_refuted new fed e = (new, whole fed ∙ e)
 
--- ---- refusals
+-- ---- what was read of a proof
+
+-- nothing was read
+pub nothing_read : (posed : Ledger) (state : State) → state ≡ proof_start posed.variables → HasReadHints posed [] state posed
+nothing_read posed state same = (satisfiable_same posed, none_fed posed state same)
 
 module _ (posed : Ledger) (given : List ℕ) (rest : Option (List ℕ)) where
-  of_fault : (l : Ledger) (e : HintFault) → IsFaultOfHints posed given rest e l → AreRefusedHints posed given rest (of_hints e)
+  of_fault : (l : Ledger) (e : HintFault) → IsFaultOfHints posed given rest e l → IsFaultFor (AreRefusedHints posed given rest) (of_hints e)
   of_fault l (hints.NotALiteral line) fault = (l, fault)
   of_fault l (hints.NoSuchVariable line) fault = (l, fault)
   of_fault l (hints.ClauseLeftOut line) fault = (l, fault)
@@ -109,17 +112,25 @@ module _ (posed : Ledger) (given : List ℕ) (rest : Option (List ℕ)) where
   of_fault l hints.Binary fault = (l, fault)
   of_fault l hints.OutOfMemory fault = tt
 
-  of_memory : (e : HintFault) → e ≡ hints.OutOfMemory → AreRefusedHints posed given rest (of_hints e)
-  of_memory e same = subst (λ fault. AreRefusedHints posed given rest (of_hints fault)) (sym same) tt
+  of_memory : (e : HintFault) → e ≡ hints.OutOfMemory → IsFaultFor (AreRefusedHints posed given rest) (of_hints e)
+  of_memory e same = subst (λ fault. IsFaultFor (AreRefusedHints posed given rest) (of_hints fault)) (sym same) tt
 
--- a piece is refused
-pub piece_fault : (posed : Ledger) (given : List ℕ) (rest : Option (List ℕ)) (state : State) (left : Ledger) (piece : List ℕ) (new : Ledger) (e : HintFault) → IsFedTo posed given state left
-    → IsRefusedFor (outcome_of (text_of state piece) left) e new → AreRefusedHints posed (given ++ piece) rest (of_hints e)
-piece_fault posed given rest state left piece new e fed (inl memory) = of_memory posed (given ++ piece) rest e memory
-piece_fault posed given rest state left piece new e fed (inr is) = of_fault posed (given ++ piece) rest new e (inl (further posed given state left piece fed ∙ is))
+module _ (posed : Ledger) (given : List ℕ) (state : State) (left : Ledger) (read : HasReadHints posed given state left) where
+  -- a piece was read
+  pub piece_read : (piece : List ℕ) (state' : State) (left' : Ledger) → KeepsSatisfiable left left' → IsReadTo (outcome_of (text_of state piece) left) state' left' → HasReadHints posed (given ++ piece) state' left'
+  piece_read piece state' left' keeps fed = (satisfiable_on posed left left' read.0 keeps, more_fed posed given state left piece state' left' read.1 fed)
 
--- the whole proof is refused
-pub end_fault : (posed : Ledger) (given : List ℕ) (rest : Option (List ℕ)) (state : State) (left new : Ledger) (e : HintFault) → IsFedTo posed given state left → IsAtEnd rest
-    → IsRefusedFor (outcome_at_end state left) e new → AreRefusedHints posed given rest (of_hints e)
-end_fault posed given rest state left new e fed end (inl memory) = of_memory posed given rest e memory
-end_fault posed given rest state left new e fed end (inr is) = of_fault posed given rest new e (inr (end, whole posed given state left fed ∙ is))
+  -- a piece is refused
+  pub piece_refused : (rest : Option (List ℕ)) (piece : List ℕ) (new : Ledger) (e : HintFault) → IsRefusedFor (outcome_of (text_of state piece) left) e new
+      → IsFaultFor (AreRefusedHints posed (given ++ piece) rest) (of_hints e)
+  piece_refused rest piece new e (inl memory) = of_memory posed (given ++ piece) rest e memory
+  piece_refused rest piece new e (inr is) = of_fault posed (given ++ piece) rest new e (inl (further posed given state left piece read.1 ∙ is))
+
+  -- the proof is accepted at its end
+  pub end_accepted : (new : Ledger) → HasNoModel left → outcome_at_end state left ≡ refutes new → AreAcceptedHints posed given
+  end_accepted new refuted is = (no_model_before posed left read.0 refuted, whole_refuted posed given state left new read.1 is)
+
+  -- the proof is refused at its end
+  pub end_refused : (rest : Option (List ℕ)) → IsAtEnd rest → (new : Ledger) (e : HintFault) → IsRefusedFor (outcome_at_end state left) e new → IsFaultFor (AreRefusedHints posed given rest) (of_hints e)
+  end_refused rest end new e (inl memory) = of_memory posed given rest e memory
+  end_refused rest end new e (inr is) = of_fault posed given rest new e (inr (end, whole posed given state left read.1 ∙ is))

@@ -1,35 +1,22 @@
 -- The counts of a run over a task and a proof with hints, and that what it is accepted for is true.
-use Rattle.std.proofs.Common.{◌≡◌, ℕ, ◌+◌, ◌≤◌, List, length, Option, Result, Ok, Err, refl, arith, subst}
+use Rattle.std.proofs.Common.{ℕ, List, Result, subst}
 use Rattle.wf_formula.specs.Encoding.{question}
 use Rattle.wf_io.specs.Seen.{Reading, Writing}
 use Rattle.wf_io.specs.Texts.{Wrote}
 use Rattle.wf_lrat.specs.Ledger.{Ledger, ledger_of}
 use Rattle.wf_run.specs.declared.fault.RunFault.{RunFault}
-use Rattle.wf_run.specs.declared.fault.RunFault.TheVariants as run
-use Rattle.wf_run.specs.Run.{failed_writes, by_result}
 use Rattle.wf_run.specs.Laws.{IsChecked}
 use Rattle.wf_verify_engine.specs.Headline.{HintedRefutationsAreTrue}
-use Rattle.wf_verify_engine.specs.Hints.{IsOfHints, ReadsAsHints, ReadsHints, RefutesByHints}
+use Rattle.wf_verify_engine.specs.Hints.{AreRefusedHints, IsRefuted, ReadsAsHints, ReadsHints, RefutesByHints, whole_outcome}
 use Rattle.wf_verify_engine.specs.Proofs.{IsAcceptedNone, most_proof_bytes}
 use Rattle.wf_run.proofs.RunsOverTwoSources.{IsReadCounted, counted, done}
-
-module _ {X : Type 0} (posed : Ledger) (holds : X → Type 0) (given : List ℕ) (left : Option (List ℕ)) where
-  few : (result : Result X RunFault) → IsOfHints posed holds given left result → length given ≤ most_proof_bytes + 1
-  few (Ok x) is = let bound = is.3 in omega (arith, bound)
-  few (Err run.TooLong) is = omega (arith, is)
-  few (Err e) is = is.1
-
-  unwritten : (result : Result X RunFault) → IsOfHints posed holds given left result → by_result failed_writes result ≡ 0
-  unwritten (Ok x) is = refl
-  unwritten (Err run.Write) is = absurd is.0
-  unwritten (Err e) is = refl
+use Rattle.wf_verify_engine.proofs.ProofCounts.{bytes_counted}
 
 -- whatever the clauses are, and what holds where the proof is accepted
 pub hints_counted : (posed : Ledger) (holds : Unit {0} × List ℕ → Type 0) (old new : Reading) (answer : Result (Unit {0} × List ℕ) RunFault) → ReadsAsHints posed holds old new answer
     → IsReadCounted most_proof_bytes old new answer
-hints_counted posed holds old new answer (given, gave, is) =
-    let bound = few posed holds given new.left answer is in
-    record { taken = omega (arith, gave.taken, bound); failures = gave.failures; writes = unwritten posed holds given new.left answer is }
+hints_counted posed holds old new answer read =
+    bytes_counted (λ given answer. holds answer × IsRefuted (whole_outcome posed given)) (AreRefusedHints posed) (λ given left is. is) old new answer read
 
 pub proved_by_hints : (r : ℕ) (task task' proof proof' : Reading) (sink sink' : Writing) (result : Result (Unit {0}) RunFault)
     → RefutesByHints r task task' proof proof' sink sink' result → IsChecked most_proof_bytes task task' proof proof' sink sink' result
@@ -39,4 +26,4 @@ pub hinted_refutations_true : HintedRefutationsAreTrue
 hinted_refutations_true r task task' proof proof' sink sink' ran =
     let end = done ReadsHints r task task' proof proof' sink sink' ran in
     let (given, gave, is) = end.read in
-    (end.t, end.given, is.0.0, subst (λ text. Wrote sink sink' text) is.0.1 end.wrote)
+    (end.t, end.given, is.0.0.0, subst (λ text. Wrote sink sink' text) is.0.0.1 end.wrote)

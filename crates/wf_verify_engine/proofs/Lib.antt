@@ -12,5 +12,4 @@ pub mod CertificateCounts
 pub mod ModelsAreTrue
 pub mod RefutationsAreTrue
 pub mod HintBytes
-pub mod HintsToLines
 pub mod HintCounts

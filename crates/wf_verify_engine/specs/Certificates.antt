@@ -14,7 +14,8 @@ use Rattle.wf_obstruction.specs.declared.fault.ObstructionFault.TheVariants.{NoS
 use Rattle.wf_obstruction_text.specs.Text.{Obstruction, begins_as_obstruction, line_of_tuple, obstruction_of}
 use Rattle.wf_obstruction_text.specs.Seen.{obstruction_seen}
 use Rattle.wf_obstruction_text.specs.declared.obstruction.Obstruction as code
-use Rattle.wf_run.specs.Run.{IsTaskOf, Next, Ran, Reads}
+use Rattle.wf_run.specs.Run.{Next, Ran, Reads}
+use Rattle.wf_run.specs.Sources.{AsksPair, NextReads}
 use Rattle.wf_verify_engine.specs.Verify.{ChecksText, accepted_text}
 use Rattle.wf_verify_engine.specs.declared.outcome.Accepted.{Accepted}
 use Rattle.wf_verify_engine.specs.declared.outcome.Verified.{Verified}
@@ -105,12 +106,11 @@ ChecksCertificate rounds t text result =
 
 -- the certificate is read where there is a task, and is else left alone
 abbrev pub ChecksCertificateFor : Option ℕ → Reading → Reading → Result Task RunFault → Result (Verified × List ℕ) RunFault → Type 0
-ChecksCertificateFor rounds source source' (Ok t) result = Reads (ChecksCertificate rounds t) source source' result
-ChecksCertificateFor rounds source source' (Err e) result = (result ≡ Err e) × (source' ≡ source)
+ChecksCertificateFor rounds source source' t result = NextReads (λ t. Reads (ChecksCertificate rounds t)) source source' t result
 
 abbrev pub ChecksBoth : Option ℕ → Reading → Reading → Reading → Reading → Result (Verified × List ℕ) RunFault → Type 0
 ChecksBoth rounds task task' source source' result =
-    (t : Result Task RunFault) × Reads IsTaskOf task task' t × ChecksCertificateFor rounds source source' t result
+    AsksPair (λ t. Reads (ChecksCertificate rounds t)) task task' source source' result
 
 -- The certificate of a source was checked against the task of another one, and what is accepted was
 -- written. If rounds are asked for, a report has to be for these; an obstruction is for all.

@@ -1,20 +1,20 @@
 -- A run over two sources: a task, and the clausal proof with hints by which a SAT solver shows that
 -- its question has no model.
-use Rattle.std.specs.Prelude.{◌≡◌, ◌⊎◌, ◌≤◌, ◌+◌, ℕ, List, length, Option, Result, Ok, Err}
+use Rattle.std.specs.Prelude.{◌≡◌, ◌⊎◌, ℕ, List, Option, Result}
 use Rattle.std.specs.Io.KnownBytes.{IsAtEnd}
 use Rattle.wf_model.specs.Task.{Task}
 use Rattle.wf_formula.specs.Encoding.{question}
 use Rattle.wf_io.specs.Seen.{Reading, Writing}
-use Rattle.wf_io.specs.Texts.{Gave}
 use Rattle.wf_lrat_text.specs.Text.{text_of}
 use Rattle.wf_lrat.specs.Fed.{Outcome, outcome_at_end, outcome_of, proof_start, reads, refuses, refutes}
 use Rattle.wf_lrat.specs.Ledger.{Ledger, ledger_of}
+use Rattle.wf_lrat.specs.Models.{HasNoModel}
 use Rattle.wf_lrat.specs.declared.proof.HintFault.{HintFault}
-use Rattle.wf_run.specs.Run.{Ran, by_result, failed_reads}
+use Rattle.wf_run.specs.Run.{Ran}
 use Rattle.wf_run.specs.Sources.{AsksBoth}
-use Rattle.wf_verify_engine.specs.Proofs.{IsAcceptedNone, most_proof_bytes}
+use Rattle.wf_verify_engine.specs.Proofs.{IsAcceptedNone, ReadsBytes}
 use Rattle.wf_run.specs.declared.fault.RunFault.{RunFault}
-use Rattle.wf_run.specs.declared.fault.RunFault.TheVariants.{Hints, OutOfMemory, Read, TooLong}
+use Rattle.wf_run.specs.declared.fault.RunFault.TheVariants.{Hints}
 
 -- ---- what bytes come to
 
@@ -43,30 +43,22 @@ abbrev pub IsFaultOfHints : Ledger → List ℕ → Option (List ℕ) → HintFa
 IsFaultOfHints posed given left fault l =
     (outcome_so_far posed given ≡ refuses fault l) ⊎ (IsAtEnd left × (whole_outcome posed given ≡ refuses fault l))
 
--- what may come of a proof that gave these bytes and is refused, about these clauses
+-- the fault of a proof that gave these bytes, about these clauses
 abbrev pub AreRefusedHints : Ledger → List ℕ → Option (List ℕ) → RunFault → Type 0
 AreRefusedHints posed given left (Hints fault) = (l : Ledger) × IsFaultOfHints posed given left fault l
-AreRefusedHints posed given left TooLong = Unit {0}
-AreRefusedHints posed given left OutOfMemory = Unit {0}
-AreRefusedHints posed given left Read = Unit {0}
 AreRefusedHints posed given left e = ⊥
 
 -- ---- what is made of a proof
 
--- What is made of the bytes that a source gave as a proof about these clauses. If the proof is
--- accepted, this holds of what is answered, the proof comes to the contradiction, and the source
--- is at its end. If there is one byte more than a proof may have, there are too many bytes.
-abbrev pub IsOfHints : {X : Type 0} → Ledger → (X → Type 0) → List ℕ → Option (List ℕ) →
-    Result X RunFault → Type 0
-IsOfHints posed holds given left (Ok x) =
-    holds x × IsRefuted (whole_outcome posed given) × IsAtEnd left × (length given ≤ most_proof_bytes)
-IsOfHints posed holds given left (Err TooLong) = length given ≡ most_proof_bytes + 1
-IsOfHints posed holds given left (Err e) = AreRefusedHints posed given left e × (length given ≤ most_proof_bytes + 1)
+-- a proof of these bytes comes to the contradiction, and these clauses have no model
+abbrev pub AreAcceptedHints : Ledger → List ℕ → Type 0
+AreAcceptedHints posed given = HasNoModel posed × IsRefuted (whole_outcome posed given)
 
--- a source's bytes as a proof about these clauses
+-- A source's bytes as a proof about these clauses. If the proof is accepted, this holds of what is
+-- answered, and the proof comes to the contradiction.
 abbrev pub ReadsAsHints : {X : Type 0} → Ledger → (X → Type 0) → Reading → Reading → Result X RunFault → Type 0
 ReadsAsHints posed holds old new result =
-    (given : List ℕ) × Gave old new given (by_result failed_reads result) × IsOfHints posed holds given new.left result
+    ReadsBytes (λ given x. holds x × IsRefuted (whole_outcome posed given)) (AreRefusedHints posed) old new result
 
 -- a source's bytes as a proof that there is no decision map: that the task's question has no model
 abbrev pub ReadsHints : Task → ℕ → Reading → Reading → Result (Unit {0} × List ℕ) RunFault → Type 0

@@ -6,4 +6,6 @@ pub mod Certificates
 pub mod Models
 pub mod Proofs
 pub mod Hints
+pub mod Formats
+pub mod Readers
 pub mod Laws

@@ -22,30 +22,42 @@ use Rattle.wf_run.specs.declared.fault.RunFault.TheVariants.{Proof, OutOfMemory,
 abbrev pub most_proof_bytes : ℕ
 most_proof_bytes = 2 ^ 62
 
--- ---- why a proof is refused
+-- ---- what is made of a proof, in any format
 
--- what may come of a proof of these bytes that is refused, where this was known before it
+-- What is made of the bytes that a source gave as a proof. If the proof is accepted, this holds of
+-- its bytes and of what is answered, and the source is at its end. If the proof is refused for a
+-- fault of its own, that holds of its bytes, of what the source has left, and of the fault. There
+-- are too many bytes if there is one more than a proof may have.
+abbrev pub IsOfBytes : {X : Type 0} → (List ℕ → X → Type 0) → (List ℕ → Option (List ℕ) → RunFault → Type 0) → List ℕ → Option (List ℕ) → Result X RunFault → Type 0
+IsOfBytes accepts refuses given left (Ok x) = accepts given x × IsAtEnd left × (length given ≤ most_proof_bytes)
+IsOfBytes accepts refuses given left (Err TooLong) = length given ≡ most_proof_bytes + 1
+IsOfBytes accepts refuses given left (Err OutOfMemory) = length given ≤ most_proof_bytes + 1
+IsOfBytes accepts refuses given left (Err Read) = length given ≤ most_proof_bytes + 1
+IsOfBytes accepts refuses given left (Err e) = refuses given left e × (length given ≤ most_proof_bytes + 1)
+
+-- a source's bytes as a proof
+abbrev pub ReadsBytes : {X : Type 0} → (List ℕ → X → Type 0) → (List ℕ → Option (List ℕ) → RunFault → Type 0) → Reading → Reading → Result X RunFault → Type 0
+ReadsBytes accepts refuses old new result =
+    (given : List ℕ) × Gave old new given (by_result failed_reads result) × IsOfBytes accepts refuses given new.left result
+
+-- why bytes of a proof are refused: memory ran out, or they have such a fault
+abbrev pub IsFaultFor : (RunFault → Type 0) → RunFault → Type 0
+IsFaultFor refuses TooLong = ⊥
+IsFaultFor refuses OutOfMemory = Unit {0}
+IsFaultFor refuses Read = ⊥
+IsFaultFor refuses e = refuses e
+
+-- ---- what is made of a clausal proof
+
+-- the fault of a proof of these bytes, where this was known before it
 abbrev pub IsRefusedProof : Known → List ℕ → RunFault → Type 0
 IsRefusedProof posed given (Proof fault) = (known : Known) × IsFaultOfProof posed given known fault
-IsRefusedProof posed given TooLong = Unit {0}
-IsRefusedProof posed given OutOfMemory = Unit {0}
-IsRefusedProof posed given Read = Unit {0}
 IsRefusedProof posed given e = ⊥
 
--- ---- what is made of a proof
-
--- What is made of the bytes that a source gave as a proof. Where it is
--- accepted, this holds of what is answered, and the source is at its end.
--- There are too many bytes where there is one more than a proof may have.
-abbrev pub IsOfProof : {X : Type 0} → Known → (X → Type 0) → List ℕ → Option (List ℕ) → Result X RunFault → Type 0
-IsOfProof posed holds given left (Ok x) = holds x × IsAtEnd left × (length given ≤ most_proof_bytes)
-IsOfProof posed holds given left (Err TooLong) = length given ≡ most_proof_bytes + 1
-IsOfProof posed holds given left (Err e) = IsRefusedProof posed given e × (length given ≤ most_proof_bytes + 1)
-
--- a source's bytes as a proof, where this was known before it
+-- A source's bytes as a proof, where this was known before it. If the proof is accepted, this
+-- holds of what is answered.
 abbrev pub ReadsAsProof : {X : Type 0} → Known → (X → Type 0) → Reading → Reading → Result X RunFault → Type 0
-ReadsAsProof posed holds old new result =
-    (given : List ℕ) × Gave old new given (by_result failed_reads result) × IsOfProof posed holds given new.left result
+ReadsAsProof posed holds old new result = ReadsBytes (λ given x. holds x) (λ given left. IsRefusedProof posed given) old new result
 
 -- the same of a formula: what was known is this formula, with its variables
 -- and each of its clauses kept, and no other clause

@@ -14,7 +14,8 @@ use Rattle.wf_report.specs.Reports.{report_seen}
 use Rattle.wf_check.specs.Faults.{Fails}
 use Rattle.wf_check.specs.Truth.{HoldsOf}
 use Rattle.wf_report.specs.declared.fault.CertFault.TheVariants as amiss
-use Rattle.wf_run.specs.Run.{Judged, Next, Ran, Reads, IsTaskOf, HasComplex, IsBeyondLimits}
+use Rattle.wf_run.specs.Run.{Judged, Next, Ran, HasComplex, IsBeyondLimits}
+use Rattle.wf_run.specs.Sources.{AsksPair, NextReads}
 use Rattle.wf_verify_engine.specs.declared.outcome.Accepted.{Accepted}
 use Rattle.wf_verify_engine.specs.declared.outcome.Accepted.TheVariants.{Map, Nothing, Least}
 use Rattle.wf_run.specs.declared.fault.RunFault.{RunFault}
@@ -109,13 +110,12 @@ ChecksReport ReadsReport rounds is_text t reports reports' result =
 
 -- the report is read where there is a task, and is else left alone
 abbrev pub ChecksAfter : {X : Type 0} → ReportReading → Option ℕ → (Task → Report → X → List ℕ → Type 0) → Reading → Reading → Result Task RunFault → Result (X × List ℕ) RunFault → Type 0
-ChecksAfter ReadsReport rounds is_text reports reports' (Ok t) result = ChecksReport ReadsReport rounds is_text t reports reports' result
-ChecksAfter ReadsReport rounds is_text reports reports' (Err e) result = (result ≡ Err e) × (reports' ≡ reports)
+ChecksAfter ReadsReport rounds is_text reports reports' t result = NextReads (ChecksReport ReadsReport rounds is_text) reports reports' t result
 
 -- the task is read, and then the report
 abbrev pub ChecksBoth : {X : Type 0} → ReportReading → Option ℕ → (Task → Report → X → List ℕ → Type 0) → Reading → Reading → Reading → Reading → Result (X × List ℕ) RunFault → Type 0
 ChecksBoth ReadsReport rounds is_text task task' reports reports' result =
-    (t : Result Task RunFault) × Reads IsTaskOf task task' t × ChecksAfter ReadsReport rounds is_text reports reports' t result
+    AsksPair (ChecksReport ReadsReport rounds is_text) task task' reports reports' result
 
 -- the same, if the report is read as a whole
 abbrev pub ChecksFor : {X : Type 0} → Option ℕ → (Task → Report → X → List ℕ → Type 0) → Reading → Reading → Result Task RunFault → Result (X × List ℕ) RunFault → Type 0

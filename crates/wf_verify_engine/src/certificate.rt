@@ -1,78 +1,54 @@
 //! Checking a certificate about a task: a report or an obstruction.
 
 ghost use Rattle.std.specs.Prelude.{◌≡◌, IfOk, string_bytes};
-ghost use Rattle.wf_io.specs.Ends.{CanRead};
+ghost use Rattle.std.specs.Thread.{IsSync};
 ghost use Rattle.wf_obstruction.specs.Tuples.{tuples_seen};
 ghost use Rattle.wf_obstruction_text.specs.Seen.{obstruction_seen};
 ghost use Rattle.wf_run.specs.Run.{Reads, answered};
-ghost use Rattle.wf_run.specs.Sources.{CanReadBoth};
-ghost use Rattle.wf_verify_engine.specs.Certificates.{ChecksBoth, ChecksCertificate, ChecksObstruction, ChecksReport, IsObstructionOf, IsSoundOrRefused, JudgesObstruction, VerifiesCertificate, as_verified, by_line, never_text, read_as_obstruction};
+ghost use Rattle.wf_verify_engine.specs.Certificates.{ChecksCertificate, ChecksObstruction, ChecksReport, IsObstructionOf, IsSoundOrRefused, JudgesObstruction, as_verified, by_line, never_text, read_as_obstruction};
 
 use crate::outcome::{Accepted, Verified};
 use crate::verify::check_text;
 use std::alloc::{AllocError, Global};
-use std::io::{Read, Write};
+use std::io::Read;
 use std::thread::Threads;
-use wf_io::{Sink, Source, read_all};
+use wf_io::{Source, read_all};
 use wf_obstruction::{ObstructionFault, WeightedTuple, is_obstruction};
 use wf_obstruction_text::{Obstruction, is_obstruction_text, line_of_tuple, read_obstruction};
 use wf_report::CertFault;
-use wf_run::{RunFault, hand_out, read_task};
+use wf_run::{Answered, PairAnswer, RunFault};
 use wf_task::{LONGEST, Task};
 
-/// Reads a task to its reader's end, and then a certificate about it to its own reader's end.
-/// Checks the certificate, and writes what is accepted. If the first line says that the certificate
-/// is an obstruction, it is checked as one. Otherwise it is a report, and is checked as
+/// What is accepted of a certificate about a task. If the first line says that the certificate is
+/// an obstruction, it is checked as one. Otherwise it is a report, and is checked as
 /// [`run_verify`](crate::run_verify) does.
 ///
 /// If an obstruction is accepted, no function on the views is a decision map, after any number of
 /// rounds. So an obstruction is accepted for whatever rounds are asked for.
-pub fn run_verify_certificate<T: Threads + Sync, R: Read, C: Read, W: Write>(
-    rt: &T,
-    alloc: Global,
-    task_source: &mut Source<R>,
-    source: &mut Source<C>,
-    sink: &mut Sink<W>,
-    rounds: Option<u32>,
-) -> Result<Verified, RunFault>
-    requires { CanReadBoth task_source.old source.old sink.old }
-    ensures { VerifiesCertificate rounds task_source.old task_source.new source.old source.new
-        sink.old sink.new result }
-{
-    let answer = verify_both(rt, alloc, task_source, source, rounds);
-    hand_out(sink, answer)
+#[derive(Clone, Copy)]
+pub struct AcceptedCertificate<'a, T> {
+    /// What starts threads.
+    pub rt: &'a T,
+    /// The rounds that are asked for, if any are.
+    pub rounds: Option<u32>,
 }
 
-/// What is accepted of two sources, with its text.
-fn verify_both<T: Threads + Sync, R: Read, C: Read>(
-    rt: &T,
-    alloc: Global,
-    task_source: &mut Source<R>,
-    source: &mut Source<C>,
-    rounds: Option<u32>,
-) -> Result<(Verified, Vec<u8>), RunFault>
-    requires task { CanRead task_source.old }
-    requires certificate { CanRead source.old }
-    ensures { ChecksBoth rounds task_source.old task_source.new source.old source.new
-        (answered result) }
-{
-    let task = read_task(alloc, task_source)?;
-    verify_source(rt, alloc, &task, source, rounds)
-}
+impl<'a, T: Threads + Sync> PairAnswer for AcceptedCertificate<'a, T> {
+    type Answer = Verified;
 
-/// What is accepted of a source's certificate about a task, with its text.
-fn verify_source<T: Threads + Sync, C: Read>(
-    rt: &T,
-    alloc: Global,
-    task: &Task,
-    source: &mut Source<C>,
-    rounds: Option<u32>,
-) -> Result<(Verified, Vec<u8>), RunFault>
-    requires { CanRead source.old }
-    ensures { Reads (ChecksCertificate rounds task.now) source.old source.new (answered result) }
-{
-    let text = read_all(alloc, source, LONGEST)?;
-    verify_text(rt, alloc, task, &text, rounds)
+    ghost is_ready = { λ _. IsSync T.row };
+
+    ghost asks = { λ accepted t. Reads (ChecksCertificate accepted.rounds t) };
+
+    fn of_pair<C: Read>(
+        &self,
+        alloc: Global,
+        task: &Task,
+        source: &mut Source<C>,
+    ) -> Answered<Verified> {
+        let text = read_all(alloc, source, LONGEST)?;
+        verify_text(self.rt, alloc, task, &text, self.rounds)
+    }
 }
 
 /// What is accepted of a certificate's text about a task, with the text that says so.
@@ -82,7 +58,7 @@ fn verify_text<T: Threads + Sync>(
     task: &Task,
     text: &[u8],
     rounds: Option<u32>,
-) -> Result<(Verified, Vec<u8>), RunFault>
+) -> Answered<Verified>
     ensures { ChecksCertificate rounds task.now text.now (answered result) }
 {
     if is_obstruction_text(text) {
@@ -99,16 +75,14 @@ fn verify_report<T: Threads + Sync>(
     task: &Task,
     text: &[u8],
     rounds: Option<u32>,
-) -> Result<(Verified, Vec<u8>), RunFault>
+) -> Answered<Verified>
     ensures { ChecksReport rounds task.now text.now (answered result) }
 {
     as_verified(check_text(rt, alloc, task, text, rounds))
 }
 
 /// What is accepted of a report, as of a certificate.
-fn as_verified(
-    answer: Result<(Accepted, Vec<u8>), RunFault>,
-) -> Result<(Verified, Vec<u8>), RunFault>
+fn as_verified(answer: Answered<Accepted>) -> Answered<Verified>
     ensures { answered result ≡ as_verified (answered answer) }
 {
     match answer {
@@ -123,7 +97,7 @@ fn verify_obstruction(
     task: &Task,
     text: &[u8],
     rounds: Option<u32>,
-) -> Result<(Verified, Vec<u8>), RunFault>
+) -> Answered<Verified>
     ensures { ChecksObstruction rounds task.now text.now (answered result) }
 {
     let obstruction = obstruction_of(alloc, text)?;
@@ -143,7 +117,7 @@ fn accept(
     task: &Task,
     obstruction: &Obstruction,
     rounds: Option<u32>,
-) -> Result<(Verified, Vec<u8>), RunFault>
+) -> Answered<Verified>
     ensures { JudgesObstruction rounds task.now (obstruction_seen obstruction.now)
         (answered result) }
 {

@@ -7,53 +7,28 @@ ghost use Rattle.wf_io.specs.Ends.{CanRead};
 ghost use Rattle.wf_complex.specs.Protocol.{IsProtocol};
 ghost use Rattle.wf_report.specs.Reports.{AreNumbered};
 ghost use Rattle.wf_run.specs.Run.{HasComplex, Reads, answered};
-ghost use Rattle.wf_run.specs.Sources.{CanReadBoth};
-ghost use Rattle.wf_verify_engine.specs.Models.{IsMapOf, Models, ReadsMap, ReportsMap, map_read};
+ghost use Rattle.wf_verify_engine.specs.Models.{IsMapOf, ReadsMap, ReportsMap, map_read};
 
 use std::alloc::Global;
-use std::io::{Read, Write};
+use std::io::Read;
 use std::thread::Threads;
 use wf_check::check;
 use wf_cnf::read_map;
 use wf_complex::Protocol;
-use wf_io::{Sink, Source, read_all};
+use wf_io::{Source, read_all};
 use wf_report::{Body, Header, Report, write_report};
-use wf_run::{RunFault, SecondText, run_over_both};
+use wf_run::{Answered, RunFault, SecondText, TextSubject};
 use wf_task::{LONGEST, Task};
 
-/// Reads a task to its reader's end, and then a SAT solver's output to its own reader's end; takes
-/// from the model in it at each point of the protocol complex after some rounds the least value
-/// whose variable is true; checks that map as [`run_verify`](crate::run_verify) checks that of a
-/// report; and writes the report of the map.
+/// The report of the map that a SAT solver's model gives: at each point of the protocol complex the
+/// least value whose variable is true. The second source gives the solver's output. The map is
+/// checked as [`run_verify`](crate::run_verify) checks that of a report.
 ///
-/// Too many rounds or executions are refused before the output is read. Nothing rests on the
-/// solver: what is written is accepted by the checker.
-pub fn run_model<T: Threads + Sync, R: Read, C: Read, W: Write>(
-    rt: &T,
-    alloc: Global,
-    task_source: &mut Source<R>,
-    model_source: &mut Source<C>,
-    sink: &mut Sink<W>,
-    rounds: u32,
-) -> Result<(), RunFault>
-    requires { CanReadBoth task_source.old model_source.old sink.old }
-    ensures { Models rounds task_source.old task_source.new model_source.old model_source.new
-        sink.old sink.new result }
-{
-    run_over_both(
-        alloc,
-        task_source,
-        model_source,
-        sink,
-        rounds,
-        &MapOfModel { rt },
-    )
-}
-
-/// The report of the map that a solver's model gives.
+/// Nothing rests on the solver: what is written is accepted by the checker.
 #[derive(Clone, Copy)]
-struct MapOfModel<'a, T> {
-    rt: &'a T,
+pub struct MapOfModel<'a, T> {
+    /// What starts threads.
+    pub rt: &'a T,
 }
 
 impl<'a, T: Threads + Sync> SecondText for MapOfModel<'a, T> {
@@ -61,13 +36,12 @@ impl<'a, T: Threads + Sync> SecondText for MapOfModel<'a, T> {
 
     ghost reads = { λ map. ReadsMap };
 
-    fn read_about<C: Read>(
-        &self,
-        alloc: Global,
-        task: &Task,
-        protocol: &Protocol,
-        source: &mut Source<C>,
-    ) -> Result<((), Vec<u8>), RunFault> {
+    fn read_about<C: Read>(&self, subject: &TextSubject, source: &mut Source<C>) -> Answered<()> {
+        let TextSubject {
+            alloc,
+            task,
+            protocol,
+        } = *subject;
         let map = read_model(alloc, task, protocol, source)?;
         report_map(self.rt, alloc, task, protocol, map)
     }
@@ -106,7 +80,7 @@ fn report_map<T: Threads + Sync>(
     task: &Task,
     protocol: &Protocol,
     map: Vec<u8>,
-) -> Result<((), Vec<u8>), RunFault>
+) -> Answered<()>
     requires complex { HasComplex task.now protocol.now.rounds }
     requires protocol { IsProtocol task.now protocol.now.rounds protocol.now }
     requires few { AreNumbered (length map.items) }

@@ -1,142 +1,45 @@
-//! Checking a SAT solver's clausal proof that the question of a task has no model.
+//! Checking a SAT solver's proof that the question of a task has no model.
 
-ghost use Rattle.std.specs.Prelude.{◌<◌, length};
-ghost use Rattle.wf_io.specs.Ends.{CanRead};
-ghost use Rattle.wf_complex.specs.Protocol.{IsProtocol};
-ghost use Rattle.wf_rup.specs.Seen.{HasNoModel};
-ghost use Rattle.wf_run.specs.Run.{answered};
-ghost use Rattle.wf_run.specs.Sources.{CanReadBoth};
-ghost use Rattle.wf_verify_engine.specs.Proofs.{ReadsAsProof, ReadsProof, Refutes};
+ghost use Rattle.wf_formula.specs.Encoding.{question};
+ghost use Rattle.wf_verify_engine.specs.Proofs.{IsAcceptedNone};
 
-use crate::listener::{ProofListener, tell_line};
+use crate::format::ProofFormat;
+use crate::listener::ProofListener;
 use crate::verify::accepted_text;
-use std::alloc::Global;
-use std::io::{Read, Write};
-use wf_complex::Protocol;
-use wf_io::{Sink, Source};
-use wf_posing::pose;
+use std::io::Read;
+use wf_io::Source;
 use wf_report::Body;
-use wf_run::{RunFault, SecondText, run_over_both};
-use wf_rup::{Checker, Proof};
-use wf_task::Task;
+use wf_run::{Answered, SecondText, TextSubject};
 
-/// The most bytes of a proof.
-pub const MOST_PROOF_BYTES: u64 = 1 << 62;
-
-/// how many bytes of a proof are asked for at once
-pub(crate) const PIECE: usize = 65_536;
-
-/// Reads a task to its reader's end, and then a SAT solver's clausal proof to its own reader's end.
-/// Checks each lemma, by unit propagation or as a resolution asymmetric tautology, over the formula
-/// of the task and these rounds, which is made here. Writes that no decision map is accepted. If
-/// that is written, no function on the views is a decision map, whatever the proof's bytes are.
+/// The line that no decision map is accepted, if a SAT solver's proof shows it. The second source
+/// of a run is read to its end as a proof in this format, and each of its steps is checked over the
+/// formula of the task and its rounds, which is made here. If the line is written, no function on
+/// the views is a decision map, whatever the proof's bytes are.
 ///
 /// The proof is read in pieces and may be longer than memory. Too many rounds or executions are
-/// refused before it is read, and more than [`MOST_PROOF_BYTES`] once that many were. If there is a
-/// listener, it is told how the check goes on.
-pub fn run_proof<L: ProofListener, R: Read, C: Read, W: Write>(
-    alloc: Global,
-    task_source: &mut Source<R>,
-    proof_source: &mut Source<C>,
-    sink: &mut Sink<W>,
-    rounds: u32,
-    listener: Option<&L>,
-) -> Result<(), RunFault>
-    requires { CanReadBoth task_source.old proof_source.old sink.old }
-    ensures { Refutes rounds task_source.old task_source.new proof_source.old proof_source.new
-        sink.old sink.new result }
-{
-    let none = NoneByProof { listener };
-    run_over_both(alloc, task_source, proof_source, sink, rounds, &none)
-}
-
-/// That no decision map is accepted, if a solver's proof shows it.
+/// refused before the proof is read, and more than [`MOST_PROOF_BYTES`](crate::MOST_PROOF_BYTES)
+/// once that many were.
 #[derive(Clone, Copy)]
-struct NoneByProof<'a, L> {
-    listener: Option<&'a L>,
+pub struct NoneByProof<'a, P, L> {
+    /// The proof's format.
+    pub format: P,
+    /// Who hears how the check goes on, if anybody does.
+    pub listener: Option<&'a L>,
 }
 
-impl<'a, L: ProofListener> SecondText for NoneByProof<'a, L> {
-    ghost reads = { λ none. ReadsProof };
+impl<'a, P: ProofFormat, L: ProofListener> SecondText for NoneByProof<'a, P, L> {
+    ghost reads = { λ none t r. P.reads (question t r) (IsAcceptedNone t r) };
 
-    fn read_about<C: Read>(
-        &self,
-        alloc: Global,
-        task: &Task,
-        protocol: &Protocol,
-        source: &mut Source<C>,
-    ) -> Result<((), Vec<u8>), RunFault> {
-        refute(alloc, task, protocol, source, self.listener)
+    fn read_about<C: Read>(&self, subject: &TextSubject, source: &mut Source<C>) -> Answered<()> {
+        let alloc = subject.alloc;
+        let checker = self.format.pose(alloc, subject.task, subject.protocol)?;
+        self.format
+            .read_from(alloc, source, checker, self.listener)?;
+        let text = accepted_text(
+            alloc,
+            &Body::Nothing(Vec::new(alloc)),
+            Some(subject.protocol.rounds()),
+        )?;
+        Ok(((), text.into_bytes()))
     }
-}
-
-/// The line that no decision map is accepted, where a source's proof shows that there is none on a
-/// task's protocol complex.
-fn refute<L: ProofListener, C: Read>(
-    alloc: Global,
-    task: &Task,
-    protocol: &Protocol,
-    source: &mut Source<C>,
-    listener: Option<&L>,
-) -> Result<((), Vec<u8>), RunFault>
-    requires source { CanRead source.old }
-    requires protocol { IsProtocol task.now protocol.now.rounds protocol.now }
-    ensures { ReadsProof task.now protocol.now.rounds source.old source.new (answered result) }
-{
-    let checker = pose(alloc, task, protocol)?;
-    read_proof_from(alloc, source, checker, listener)?;
-    let text = accepted_text(
-        alloc,
-        &Body::Nothing(Vec::new(alloc)),
-        Some(protocol.rounds()),
-    )?;
-    Ok(((), text.into_bytes()))
-}
-
-/// Reads a source to its end as a proof that what a checker knows has no model, as the last step of
-/// a run over a proof. It is refused where its bytes are no such proof, with its first fault:
-/// `38 NotALiteral` to `42 Binary`; and `1 TooLong`, `30 Read`.
-pub fn read_proof_from<L: ProofListener, C: Read>(
-    alloc: Global,
-    source: &mut Source<C>,
-    checker: Checker,
-    listener: Option<&L>,
-) -> Result<(), RunFault>
-    requires { CanRead source.old }
-    ensures { ReadsAsProof checker (λ accepted. HasNoModel checker)
-        source.old source.new result }
-{
-    let mut piece = vec![in alloc; 0u8; PIECE]?;
-    read_pieces(alloc, source, checker, &mut piece, listener)
-}
-
-/// Reads a source to its end as a proof, piece by piece into this room.
-fn read_pieces<L: ProofListener, C: Read>(
-    alloc: Global,
-    source: &mut Source<C>,
-    mut checker: Checker,
-    piece: &mut [u8],
-    listener: Option<&L>,
-) -> Result<(), RunFault>
-    requires source { CanRead source.old }
-    requires piece { 0 < length piece.old }
-    ensures { ReadsAsProof checker (λ accepted. HasNoModel checker)
-        source.old source.new result }
-{
-    let mut proof = Proof::new(alloc, checker.variables());
-    let mut given = 0;
-    'pieces: while given <= MOST_PROOF_BYTES {
-        let room = (MOST_PROOF_BYTES + 1 - given).min(piece.len() as u64) as usize;
-        match source.read(&mut piece[..room]) {
-            Ok(0) => return Ok(proof.finish(alloc, &mut checker)?),
-            Ok(n) => {
-                given += n as u64;
-                let before = proof.line();
-                proof.feed(alloc, &mut checker, &piece[..n])?;
-                tell_line(listener, before, proof.line(), given);
-            }
-            Err(_) => return Err(RunFault::Read),
-        }
-    }
-    Err(RunFault::TooLong)
 }

@@ -2,13 +2,14 @@
 
 ghost use Rattle.std.specs.Prelude.{◌≡◌, ℕ, IfOk, List, string_bytes};
 ghost use Rattle.std.specs.Thread.{IsSync};
+ghost use Rattle.wf_model.specs.Limits.{most_bytes};
 ghost use Rattle.wf_model.specs.Task as tasks;
 ghost use Rattle.wf_model.specs.Report as reports;
 ghost use Rattle.wf_io.specs.Ends.{CanRead};
 ghost use Rattle.wf_report.specs.Reports.{AreNumbered, body_length, body_of, report_seen};
 ghost use Rattle.wf_run.specs.Run.{Ran, Reads, answered};
 ghost use Rattle.wf_run.specs.Sources.{CanReadBoth};
-ghost use Rattle.wf_verify_engine.specs.Verify.{Checks, ChecksText, IsAccepted, IsReportOf, IsVerified, IsVerifiedFor, Judges, Verifies, accepted_text, accepted_words, accepted_of, seen};
+ghost use Rattle.wf_verify_engine.specs.Verify.{Checks, ChecksReport, ChecksText, IsAccepted, IsReportOf, IsVerified, IsVerifiedFor, Judges, ReadsUpTo, Verifies, accepted_text, accepted_words, accepted_of, seen};
 
 use crate::outcome::Accepted;
 use std::alloc::{AllocError, Global};
@@ -18,7 +19,7 @@ use wf_check::check;
 use wf_complex::Protocol;
 use wf_io::{Sink, Source, read_all};
 use wf_report::{Body, Report, read_report};
-use wf_run::{RunFault, hand_out, read_task};
+use wf_run::{Answered, PairAnswer, RunFault, run_over_pair};
 use wf_task::{LONGEST, Task};
 
 /// Reads a task to its reader's end, then a report about it to its own reader's end, checks the
@@ -56,12 +57,7 @@ pub trait ReportAnswer {
     ghost is_ready: { Self → Type 0 } = { λ _. Unit {0} };
 
     /// The answer about a report, with its text, if the report is accepted.
-    fn of_report(
-        &self,
-        alloc: Global,
-        task: &Task,
-        report: Report,
-    ) -> Result<(Self::Answer, Vec<u8>), RunFault>
+    fn of_report(&self, alloc: Global, task: &Task, report: Report) -> Answered<Self::Answer>
         requires ready { is_ready self.now }
         requires few { AreNumbered (body_length report.body) }
         ensures { IsVerified (is_text self.now) task.now (report_seen report) (answered result) };
@@ -83,27 +79,35 @@ pub fn run_over_report<A: ReportAnswer, R: Read, C: Read, W: Write>(
     ensures { Ran (Checks rounds (A.is_text asked.now) task_source.old task_source.new
         report_source.old report_source.new) sink.old sink.new result }
 {
-    let answer = ask_sources(alloc, task_source, report_source, rounds, asked);
-    hand_out(sink, answer)
+    let report = AboutReport { rounds, asked };
+    run_over_pair(alloc, task_source, report_source, sink, &report)
 }
 
-/// What is answered about a source's report about another source's task.
-fn ask_sources<A: ReportAnswer, R: Read, C: Read>(
-    alloc: Global,
-    task_source: &mut Source<R>,
-    report_source: &mut Source<C>,
+/// What is answered about a report that the second source gives.
+#[derive(Clone, Copy)]
+struct AboutReport<'a, A> {
+    // the rounds that are asked for, if any are
     rounds: Option<u32>,
-    asked: &A,
-) -> Result<(A::Answer, Vec<u8>), RunFault>
-    requires ready { A.is_ready asked.now }
-    requires task { CanRead task_source.old }
-    requires report { CanRead report_source.old }
-    ensures { Checks rounds (A.is_text asked.now) task_source.old task_source.new
-        report_source.old report_source.new (answered result) }
-{
-    let task = read_task(alloc, task_source)?;
-    let report = read_report_from(alloc, report_source)?;
-    answer_for(alloc, &task, report, rounds, asked)
+    asked: &'a A,
+}
+
+impl<'a, A: ReportAnswer> PairAnswer for AboutReport<'a, A> {
+    type Answer = A::Answer;
+
+    ghost asks = { λ about. ChecksReport (ReadsUpTo most_bytes IsReportOf) about.rounds
+        (A.is_text about.asked.now) };
+
+    ghost is_ready = { λ about. A.is_ready about.asked.now };
+
+    fn of_pair<C: Read>(
+        &self,
+        alloc: Global,
+        task: &Task,
+        source: &mut Source<C>,
+    ) -> Answered<A::Answer> {
+        let report = read_report_from(alloc, source)?;
+        answer_for(alloc, task, report, self.rounds, self.asked)
+    }
 }
 
 /// What is answered about a report, if it is for the rounds that are asked for.
@@ -113,7 +117,7 @@ fn answer_for<A: ReportAnswer>(
     report: Report,
     rounds: Option<u32>,
     asked: &A,
-) -> Result<(A::Answer, Vec<u8>), RunFault>
+) -> Answered<A::Answer>
     requires ready { A.is_ready asked.now }
     requires few { AreNumbered (body_length report.body) }
     ensures { IsVerifiedFor rounds (A.is_text asked.now) task.now (report_seen report)
@@ -139,12 +143,7 @@ impl<'a, T: Threads + Sync> ReportAnswer for Acceptance<'a, T> {
 
     ghost is_text = { λ acceptance. IsAccepted acceptance.rounds };
 
-    fn of_report(
-        &self,
-        alloc: Global,
-        task: &Task,
-        report: Report,
-    ) -> Result<(Accepted, Vec<u8>), RunFault> {
+    fn of_report(&self, alloc: Global, task: &Task, report: Report) -> Answered<Accepted> {
         let _protocol = check_report(self.rt, alloc, task, &report)?;
         let text = accepted_text(alloc, &report.body, self.rounds)?;
         Ok((accepted_of(&report.body), text.into_bytes()))
@@ -177,7 +176,7 @@ pub(crate) fn check_text<T: Threads + Sync>(
     task: &Task,
     text: &[u8],
     rounds: Option<u32>,
-) -> Result<(Accepted, Vec<u8>), RunFault>
+) -> Answered<Accepted>
     ensures { ChecksText rounds task.now text.now (answered result) }
 {
     let report = report_of(alloc, text)?;

@@ -102,9 +102,9 @@ def kubernetes(job: Job) -> str:
         "      volumes:", "      - name: keep", "        persistentVolumeClaim: {claimName: CLAIM}"])
 
 
-ENGINES = {it.__name__: it for it in (slurm, pbs, sge, lsf, kubernetes)}
+SYSTEMS = {it.__name__: it for it in (slurm, pbs, sge, lsf, kubernetes)}
 
 
 def array(words: argparse.Namespace, solver: str, count: int) -> str:
-    """The script for the engine that was named."""
-    return ENGINES[words.array](Job(words, solver, count))
+    """The script for the batch system that was named."""
+    return SYSTEMS[words.array](Job(words, solver, count))

@@ -58,7 +58,7 @@ def parsed(listed: List[str]) -> Tuple[argparse.ArgumentParser, argparse.Namespa
     chosen = words.add_mutually_exclusive_group()
     chosen.add_argument("--branch", type=int)
     chosen.add_argument("--share")
-    chosen.add_argument("--array", choices=list(arrays.ENGINES))
+    chosen.add_argument("--array", choices=list(arrays.SYSTEMS))
     chosen.add_argument("--tally", type=pathlib.Path)
     chosen.add_argument("--recheck", type=pathlib.Path)
     return words, words.parse_args(listed)

@@ -5,9 +5,9 @@ use Rattle.wf_branches.proofs.verifying.PartOfBranchSecondText.read_about.Goals 
 
 pub returns-in_err-branch : goal.returns-in_err-branch
 returns-in_err-branch g c =
-    missing_in ReadsPart c.args.self.now.number c.args.task.now c.args.protocol.now.rounds c.args.source.now c.in_err-branch.field-0.0 c.from_residual.result c.in_err-branch.ensures.refused c.from_residual.ensures
+    missing_in ReadsPart c.args.self.now.number c.args.subject.now.task.now c.args.subject.now.protocol.now.rounds c.args.source.now c.in_err-branch.field-0.0 c.from_residual.result c.in_err-branch.ensures.refused c.from_residual.ensures
 
 pub returns : goal.returns
 returns g c =
     let found = c.in_ok-branch.ensures.found in
-    found_in ReadsPart c.args.self.now.number c.args.task.now c.args.protocol.now.rounds c.args.source.now c.in_ok-branch.branch.number c.verify_part.new.source (answered c.verify_part.result) found.number found.there c.verify_part.ensures
+    found_in ReadsPart c.args.self.now.number c.args.subject.now.task.now c.args.subject.now.protocol.now.rounds c.args.source.now c.in_ok-branch.branch.number c.verify_part.new.source (answered c.verify_part.result) found.number found.there c.verify_part.ensures

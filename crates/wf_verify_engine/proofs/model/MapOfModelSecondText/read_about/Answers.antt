@@ -9,7 +9,7 @@ returns-in_err-map g c =
 
 pub report_map-requires-clause-few : goal.report_map-requires-clause-few
 report_map-requires-clause-few g c κs within =
-    map_few c.args.task.now c.args.protocol.now.rounds c.args.protocol.now c.requires.protocol c.args.source.now c.read_model.new.source c.in_ok-map.map.items c.in_ok-map.ensures
+    map_few c.args.subject.now.task.now c.args.subject.now.protocol.now.rounds c.args.subject.now.protocol.now c.requires.protocol c.args.source.now c.read_model.new.source c.in_ok-map.map.items c.in_ok-map.ensures
 
 pub returns : goal.returns
 returns g c = (Ok c.in_ok-map.map.items, c.in_ok-map.ensures, c.report_map.ensures)
