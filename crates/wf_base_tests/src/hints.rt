@@ -128,16 +128,16 @@ fn checker_of(
 fn fed(alloc: Global, checker: &mut HintChecker, variables: u32, proof: &[u8]) -> Answer {
     let mut reading = HintProof::new(alloc, variables);
     for byte in proof {
-        reading.feed(alloc, checker, &[*byte])?;
+        reading.feed(checker, &[*byte])?;
     }
-    reading.finish(alloc, checker)
+    reading.finish(checker)
 }
 
 /// What a proof with so many variables comes to that is fed as a whole.
 fn fed_whole(alloc: Global, checker: &mut HintChecker, variables: u32, proof: &[u8]) -> Answer {
     let mut reading = HintProof::new(alloc, variables);
-    reading.feed(alloc, checker, proof)?;
-    reading.finish(alloc, checker)
+    reading.feed(checker, proof)?;
+    reading.finish(checker)
 }
 
 #[test]

@@ -105,7 +105,6 @@ impl HintChecker {
     /// this id; otherwise nothing changes.
     pub fn derive(
         &mut self,
-        alloc: Global,
         id: u64,
         clause: &[Literal],
         hints: &[Hint],

@@ -116,7 +116,6 @@ impl HintProof {
     /// nothing is said of where the text is read.
     pub fn feed(
         &mut self,
-        alloc: Global,
         checker: &mut HintChecker,
         piece: &[u8],
     ) -> Result<(), HintFault>
@@ -133,7 +132,7 @@ impl HintProof {
         'bytes: while at < piece.len() {
             match self.reader.take_word(piece, at) {
                 Ok(Some(next)) => at = next,
-                Ok(None) => match self.read(alloc, checker, piece[at]) {
+                Ok(None) => match self.read(checker, piece[at]) {
                     Ok(()) => {
                         at += 1;
                         if checker.is_refuted() {
@@ -150,7 +149,7 @@ impl HintProof {
 
     /// Ends the proof, and with it its last line. It is accepted exactly if the contradiction was
     /// found.
-    pub fn finish(mut self, alloc: Global, checker: &mut HintChecker) -> Result<(), HintFault>
+    pub fn finish(mut self, checker: &mut HintChecker) -> Result<(), HintFault>
         ensures sound { IfOk result (λ accepted. HasNoModel checker.old) }
         ensures accepted { IfOk result (λ accepted.
             outcome_at_end self checker.old ≡ refutes checker.new) }
@@ -158,7 +157,7 @@ impl HintProof {
             (outcome_at_end self checker.old) fault checker.new) }
     {
         let line = self.reader.line();
-        if let Err(fault) = self.feed(alloc, checker, b"\n") {
+        if let Err(fault) = self.feed(checker, b"\n") {
             return Err(fault);
         }
         if checker.is_refuted() {
@@ -168,7 +167,7 @@ impl HintProof {
     }
 
     /// Reads one byte, where the contradiction was not found yet.
-    fn read(&mut self, alloc: Global, checker: &mut HintChecker, byte: u8) -> Result<(), HintFault>
+    fn read(&mut self, checker: &mut HintChecker, byte: u8) -> Result<(), HintFault>
         requires { checker.old.is_refuted ≡ false }
         ensures kept { KeepsSatisfiable checker.old checker.new }
         ensures read { IfOk result (λ done. (bytes : List ℕ) →
@@ -178,7 +177,7 @@ impl HintProof {
             (outcome_of (text_of self.old (byte ∷ bytes)) checker.old) fault checker.new) }
     {
         match self.reader.turn(byte) {
-            HintTurn::Ends => self.end_step(alloc, checker, byte),
+            HintTurn::Ends => self.end_step(checker, byte),
             HintTurn::Stops { flaw } => Err(fault_at(self.reader.line(), flaw)),
             HintTurn::GoesOn { reading } => self.go_on(HintTurn::GoesOn { reading }, byte),
             HintTurn::Begins { id } => self.go_on(HintTurn::Begins { id }, byte),
@@ -204,7 +203,6 @@ impl HintProof {
     /// The step at hand ends with this byte.
     fn end_step(
         &mut self,
-        alloc: Global,
         checker: &mut HintChecker,
         byte: u8,
     ) -> Result<(), HintFault>
@@ -217,14 +215,14 @@ impl HintProof {
             (text_from Ends self.old byte (λ next. text_of next bytes)) checker.old)
             fault checker.new) }
     {
-        if let Err(fault) = self.judge(alloc, checker) {
+        if let Err(fault) = self.judge(checker) {
             return Err(fault);
         }
         self.go_on(HintTurn::Ends, byte)
     }
 
     /// The clause with its hints is judged, or the clauses are deleted.
-    fn judge(&self, alloc: Global, checker: &mut HintChecker) -> Result<(), HintFault>
+    fn judge(&self, checker: &mut HintChecker) -> Result<(), HintFault>
         ensures kept { KeepsSatisfiable checker.old checker.new }
         ensures taken { IfOk result (λ done. (rest : Ledger → Outcome) →
             by_step (step_of self.now) checker.old rest ≡ rest checker.new) }
@@ -236,14 +234,14 @@ impl HintProof {
                 checker.delete(self.reader.ids());
                 Ok(())
             }
-            HintPart::Front => self.learn(alloc, checker),
-            HintPart::Literals => self.learn(alloc, checker),
-            HintPart::Hints => self.learn(alloc, checker),
+            HintPart::Front => self.learn(checker),
+            HintPart::Literals => self.learn(checker),
+            HintPart::Hints => self.learn(checker),
         }
     }
 
     /// The clause with its hints is judged.
-    fn learn(&self, alloc: Global, checker: &mut HintChecker) -> Result<(), HintFault>
+    fn learn(&self, checker: &mut HintChecker) -> Result<(), HintFault>
         ensures kept { KeepsSatisfiable checker.old checker.new }
         ensures taken { IfOk result (λ done. (rest : Ledger → Outcome) →
             by_step (step_in Hints self.now) checker.old rest ≡ rest checker.new) }
@@ -252,7 +250,6 @@ impl HintProof {
     {
         let line = self.reader.line();
         match checker.derive(
-            alloc,
             self.reader.id(),
             self.reader.clause(),
             self.reader.hints(),

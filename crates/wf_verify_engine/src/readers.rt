@@ -86,12 +86,12 @@ impl ProofReader for HintedProofReader {
         self.proof.line()
     }
 
-    fn feed(&mut self, alloc: Global, piece: &[u8]) -> Result<(), RunFault> {
-        Ok(self.proof.feed(alloc, &mut self.checker, piece)?)
+    fn feed(&mut self, _alloc: Global, piece: &[u8]) -> Result<(), RunFault> {
+        Ok(self.proof.feed(&mut self.checker, piece)?)
     }
 
-    fn finish(self, alloc: Global) -> Result<(), RunFault> {
+    fn finish(self, _alloc: Global) -> Result<(), RunFault> {
         let HintedProofReader { mut checker, proof } = self;
-        Ok(proof.finish(alloc, &mut checker)?)
+        Ok(proof.finish(&mut checker)?)
     }
 }
