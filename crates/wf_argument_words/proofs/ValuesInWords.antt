@@ -1,9 +1,8 @@
 -- Values in words, item by item.
-use Rattle.std.proofs.Common.{◌≡◌, ℕ, zero, suc, ◌+◌, ◌-◌, ◌<◌, ◌≤◌, ◌==◌, ◌||◌, List, [], ◌∷◌, ◌++◌, length, get_or, take, drop, Bool, true, false, cond, nat_le, append_assoc, append-nil, refl, sym, ap, ◌∙◌, arith, eq-eqb, eqb-true, le-leb, length-drop, codes}
-use Rattle.std.proofs.lemmas.Bool.{lt-leb}
-use Rattle.std.proofs.lemmas.List.{drop-drop, drop_all, drop_more}
+use Rattle.std.proofs.Common.{◌≡◌, ℕ, zero, suc, ◌+◌, ◌-◌, ◌<◌, ◌≤◌, ◌==◌, List, [], ◌∷◌, ◌++◌, length, get_or, take, drop, Bool, true, false, cond, nat_le, append_assoc, append-nil, refl, sym, ap, ◌∙◌, arith, length-drop, codes}
+use Rattle.std.proofs.lemmas.List.{drop-drop, drop_all}
 use Rattle.wf_argument_words.specs.declared.values.ValueRange.{ValueRange}
-use Rattle.wf_argument_words.specs.Text.{are_short, before_item, before_last, first_item, following, item_text, items_from, least_range, more_text, most_items, most_left, others_in, others_text, values_in_items}
+use Rattle.wf_argument_words.specs.Text.{before_item, before_last, first_item, following, item_text, items_from, least_range, more_text, most_items, others_in, others_text, values_in_items}
 use Rattle.wf_argument_words.proofs.ListsInWords.{rest_of}
 
 -- ---- values that follow each other
@@ -16,42 +15,7 @@ few_follow a (b ∷ bs) = by (suc a == b) (few_follow b bs)
     by true few = omega (arith, few)
     by false few = omega arith
 
--- one more value follows
-pub one_follows : (a b : ℕ) (values : List ℕ) (i : ℕ) → i < length values → b ≡ get_or values i 0 → b ≡ a + 1 → a + following a (drop i values) ≡ b + following b (drop (i + 1) values)
-one_follows a b values i inside read is =
-    let here : drop i values ≡ b ∷ drop (i + 1) values = drop_more values i 0 inside ∙ ap (λ x. x ∷ drop (i + 1) values) (sym read) in
-    let next : (suc a == b) ≡ true = eq-eqb (suc a) b (omega (arith, is)) in
-    let all : following a (drop i values) ≡ suc (following b (drop (i + 1) values)) = ap (following a) here ∙ ap (λ t. cond t (suc (following b (drop (i + 1) values))) 0) next in
-    omega (arith, all, is)
-
--- the next value does not
-pub none_follows : (a b : ℕ) (values : List ℕ) (i : ℕ) → i < length values → b ≡ get_or values i 0 → (b ≡ a + 1 → ⊥) → following a (drop i values) ≡ 0
-none_follows a b values i inside read is_not =
-    let here : drop i values ≡ b ∷ drop (i + 1) values = drop_more values i 0 inside ∙ ap (λ x. x ∷ drop (i + 1) values) (sym read) in
-    ap (following a) here ∙ by (suc a == b) refl
-  where
-    by : (t : Bool) → (suc a == b) ≡ t → cond t (suc (following b (drop (i + 1) values))) 0 ≡ 0
-    by true is = absurd (let same = eqb-true (suc a) b is in is_not (omega (arith, same)))
-    by false is = refl
-
--- no value is left
-pub no_value_follows : (a : ℕ) (values : List ℕ) (i : ℕ) → length values ≤ i → following a (drop i values) ≡ 0
-no_value_follows a values i past = ap (following a) (drop_all i values past)
-
 -- ---- the first item
-
-pub first_alone : (a : ℕ) (later : List ℕ) → suc (following a later) < least_range → record { first = a; last = a } ≡ first_item a later
-first_alone a later few = ap (λ t. record { first = a; last = cond t (a + following a later) a }) (sym (lt-leb least_range (suc (following a later)) few))
-
-pub first_range : (a last : ℕ) (later : List ℕ) → least_range ≤ suc (following a later) → last ≡ a + following a later → record { first = a; last = last } ≡ first_item a later
-first_range a last later many is = (λ i. record { first = a; last = is i }) ∙ ap (λ t. record { first = a; last = cond t (a + following a later) a }) (sym (le-leb least_range (suc (following a later)) many))
-
-pub item_ordered : (a : ℕ) (later : List ℕ) → (first_item a later).first ≤ (first_item a later).last
-item_ordered a later = by (nat_le least_range (suc (following a later)))
-  where
-    by : (t : Bool) → a ≤ cond t (a + following a later) a
-    by true = omega arith
-    by false = omega arith
 
 pub item_within : (a : ℕ) (later : List ℕ) → others_in (first_item a later) ≤ length later
 item_within a later = by (nat_le least_range (suc (following a later)))
@@ -166,9 +130,3 @@ some_told values place told text text' whole h past says =
     ∙ ap (λ xs. text ++ xs) (sym (no_more_items place items))
     ∙ ap (λ n. text ++ items_left n place items) (sym none)
     ∙ h.said
-
--- ---- few values, or one range
-
-pub short_is : (values : List ℕ) (item : ValueRange) → 0 < length values → item ≡ first_item (get_or values 0 0) (drop 1 values) → are_short values ≡ (nat_le (length values) most_left || (suc (others_in item) == length values))
-short_is [] item some is = absurd (omega (arith, some))
-short_is (a ∷ later) item some is = ap (λ it. nat_le (length (a ∷ later)) most_left || (suc (others_in it) == length (a ∷ later))) (sym is)

@@ -1,5 +1,5 @@
 -- What stands at the front of a window, and what comes of the line there.
-use Rattle.std.proofs.Common.{◌≡◌, ◌<◌, ◌≤◌, ℕ, suc, ◌+◌, ◌++◌, Bool, true, false, cond, List, [], ◌∷◌, take, drop, length, inl, inr, Option, Some, None, Ok, Err, codes, refl, sym, ap, ◌∙◌, subst, arith, append_assoc, append-nil, length-append, length-take}
+use Rattle.std.proofs.Common.{◌≡◌, ◌≤◌, ℕ, suc, ◌+◌, ◌++◌, Bool, true, false, cond, List, [], ◌∷◌, take, drop, length, inl, inr, Option, Some, None, Ok, Err, codes, refl, sym, ap, ◌∙◌, subst, arith, append_assoc, append-nil, length-append, length-take}
 use Rattle.std.proofs.lemmas.List.{take-append-drop}
 use Rattle.wf_model.specs.Report as reports
 use Rattle.wf_model.specs.Report.{least_body, line, lines_of, map_body, none_body, number_of_line, same_text, then_read, value_of_line}
@@ -15,10 +15,9 @@ use Rattle.wf_report.proofs.BodyLemmas.{ended, front_by, front_is, items_from, o
 use Rattle.wf_verify_engine.specs.declared.outcome.Accepted.{Accepted}
 use Rattle.wf_verify_engine.specs.declared.outcome.Accepted.TheVariants.{Map, Nothing, Least}
 use Rattle.wf_long.specs.Fronts.{FailsAt, answer_of}
-use Rattle.wf_long.specs.Long.{most_report_lines}
 use Rattle.wf_long.specs.Parts.{body_then, end_then, fixed_then, number_then, report_from, step_then, steps_then, values_then}
 use Rattle.wf_long.specs.Reads.{Continues, Counts, MayFollow, Parse, Reads, lines_ahead}
-use Rattle.wf_long.specs.Windows.{Ahead, CanGive, Finds, IsCutAt, IsFront, IsLineAt, IsNumbered, Seeks, passed}
+use Rattle.wf_long.specs.Windows.{Ahead, CanGive, Finds, IsCutAt, IsFront, IsLineAt, passed}
 use Rattle.wf_long.specs.declared.halt.Halt.{Halt}
 use Rattle.wf_long.specs.declared.halt.Halt.TheVariants.{Amiss, Unread}
 use Rattle.wf_long.specs.declared.window.AtFront.{AtFront}
@@ -183,15 +182,6 @@ module _ (a b : Reading) (w w' : Ahead) where
 
   pub line_at : (size : ℕ) → Finds a b w w' (Ok (found.Line size)) → IsLineAt size w'
   line_at size (bytes, gives, (pending, number, front, numbered)) = record { line = front; numbered = numbered }
-
-  -- what was sought is found
-  pub sought_found : (at : AtFront) → Seeks a b w w' (Ok at) → IsNumbered at w' → Finds a b w w' (Ok at)
-  sought_found at (bytes, gives, (pending, number, front)) numbered = (bytes, gives, (pending, number, front, numbered))
-
-  pub sought_past : (size : ℕ) → Seeks a b w w' (Ok (found.Line size)) → most_report_lines < w'.number → Finds a b w w' (Err (Amiss amiss.TooLong))
-  sought_past size (bytes, gives, (pending, number, front)) past =
-      let some = front.inside in
-      (bytes, gives, (pending, number, omega (arith, number, past), omega (arith, some)))
 
 -- the source is as before
 pub can_passed : (s : Reading) (w : Ahead) (size : ℕ) → CanGive s w → CanGive s (passed size w)

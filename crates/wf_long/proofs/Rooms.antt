@@ -1,12 +1,11 @@
 -- The room of a window, and the bytes in it.
-use Rattle.std.proofs.Common.{◌≡◌, ◌<◌, ◌≤◌, ℕ, suc, ◌+◌, ◌-◌, min, ◌++◌, true, false, List, [], ◌∷◌, length, take, drop, inl, inr, refl, sym, ap, ◌∙◌, subst, arith, append_assoc, length-append, length-drop, length-take}
+use Rattle.std.proofs.Common.{◌≡◌, ◌≤◌, ℕ, suc, ◌+◌, ◌-◌, min, ◌++◌, true, List, [], ◌∷◌, length, take, drop, refl, sym, ap, ◌∙◌, arith, append_assoc, length-append, length-drop, length-take}
 use Rattle.std.specs.Prelude.{slice_range}
 use Rattle.std.proofs.Math.Seq.{take-append-add}
 use Rattle.std.proofs.lemmas.List.{drop-drop, drop-take, take-append-drop, take-append-le, take_all}
 use Rattle.std.proofs.lemmas.Slice.{between_from_start}
 use Rattle.wf_report.specs.Reading.{lacks}
-use Rattle.wf_long.specs.Windows.{Ahead, IsCutAt, IsFront, IsShort, IsWindow}
-use Rattle.wf_long.specs.declared.window.AtFront.TheVariants as found
+use Rattle.wf_long.specs.Windows.{Ahead, IsCutAt, IsWindow}
 
 -- ---- moves within the room
 
@@ -71,36 +70,3 @@ module _ (w : Ahead) (near : List ℕ) (k : ℕ) (least : k ≡ min (length w.pe
       cut_at w front (rest ++ drop k w.pending)
       (sym (take-append-drop k w.pending) ∙ ap (λ t. t ++ drop k w.pending) (sym is ∙ cut) ∙ append_assoc front (10 ∷ rest) (drop k w.pending))
       whole
-
-  size : length near ≡ k
-  size =
-      let long = ap length is in
-      let cut = length-take k w.pending in
-      omega (arith, least, long, cut)
-
-  pub near_long : 21 < length near → lacks 10 near ≡ true → IsFront found.Bad w
-  near_long long whole =
-      let all = size in
-      let same : k ≡ 22 = omega (arith, least, all, long) in
-      inl (omega (arith, least, all, long), ap (λ n. lacks 10 (take n w.pending)) (sym same) ∙ ap (lacks 10) (sym is) ∙ whole)
-
-  pub near_few : length near ≤ 21 → w.ended ≡ false → IsShort w
-  near_few few going =
-      let all = size in
-      record { few = omega (arith, least, all, few); going = going }
-
-  -- all of it is near
-  near_all : length near ≤ 21 → near ≡ w.pending
-  near_all few =
-      let all = size in
-      is ∙ take_all k w.pending (omega (arith, least, all, few))
-
-  pub near_unended : length near ≤ 21 → lacks 10 near ≡ true → w.ended ≡ true → 0 < length near → IsFront found.Bad w
-  near_unended few whole end some = inr (end, ap (lacks 10) (sym (near_all few)) ∙ whole, subst (λ t. 0 < length t) (near_all few) some)
-
-  pub near_end : length near ≡ 0 → w.ended ≡ true → IsFront found.End w
-  near_end none end = (end, sym (near_all (omega (arith, none))) ∙ no_length near none)
-    where
-      no_length : (xs : List ℕ) → length xs ≡ 0 → xs ≡ []
-      no_length [] e = refl
-      no_length (x ∷ xs) e = absurd (omega (arith, e))

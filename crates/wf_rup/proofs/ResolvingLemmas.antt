@@ -1,7 +1,6 @@
 -- Laws of the resolvents of a lemma with the clauses of a list, one by one.
-use Rattle.std.proofs.Common.{◌≡◌, ℕ, ◌+◌, ◌<◌, ◌≤◌, true, false, List, [], ◌∷◌, sym, ◌∙◌, ap, subst, arith, length, get_or, inl, inr}
+use Rattle.std.proofs.Common.{◌≡◌, ℕ, ◌<◌, ◌≤◌, true, false, List, [], ◌∷◌, sym, ◌∙◌, subst, arith, length, get_or, inr}
 use Rattle.std.specs.List.{Contains}
-use Rattle.std.proofs.lemmas.Bool.{cases_lt}
 use Rattle.std.proofs.lemmas.List.{get_or_default}
 use Rattle.wf_rup.specs.Propagation.{Implies}
 use Rattle.wf_clause_store.specs.Literals.{has, opposite}
@@ -17,25 +16,9 @@ abbrev pub AreResolvedBefore : List (List ℕ) → List ℕ → List ℕ → ℕ
 AreResolvedBefore f trail lemma negation number =
     (k : ℕ) → k < number → has (get_or f k []) negation ≡ true → Implies (kept_of f) trail (resolvent_of lemma negation (get_or f k []))
 
--- no clause before the first one has the literal
-pub resolved-first : (f : List (List ℕ)) (trail lemma : List ℕ) (negation first : ℕ)
-    → ((n : ℕ) → has (get_or f n []) negation ≡ true → first ≤ n) → AreResolvedBefore f trail lemma negation first
-resolved-first f trail lemma negation first least = λ k before there. absurd (let after = least k there in omega (arith, before, after))
-
 module _ (f : List (List ℕ)) (trail lemma : List ℕ) (negation number : ℕ) (clause : List ℕ) (within : number < length f) (is : clause ≡ get_or f number clause) where
   here : clause ≡ get_or f number []
   here = is ∙ get_or_default f number clause [] within
-
-  -- the clause of one place more
-  pub resolved-more : AreResolvedBefore f trail lemma negation number → (has clause negation ≡ true → Implies (kept_of f) trail (resolvent_of lemma negation clause))
-      → AreResolvedBefore f trail lemma negation (number + 1)
-  resolved-more before one = λ k less there. elim (cases_lt k number) [
-    | inl early ↦ before k early there
-    | inr late ↦
-        let same : number ≡ k = omega (arith, less, late) in
-        let at : clause ≡ get_or f k [] = here ∙ ap (λ (n : ℕ). get_or f n []) same in
-        subst (λ c. Implies (kept_of f) trail (resolvent_of lemma negation c)) at (one (subst (λ c. has c negation ≡ true) (sym at) there))
-  ]
 
   -- the resolvent with this clause doesn't follow
   pub stops-at : (pivot : ℕ) → negation ≡ opposite pivot → has clause negation ≡ true → StopsShort (kept_of f) trail (resolvent_of lemma negation clause)
@@ -66,15 +49,6 @@ resolves-on f trail lemma pivot negation number e inside free long all = record 
 }
 
 -- ---- a lemma that isn't RAT
-
-pub short-empty : (clauses : List (List ℕ)) (trail lemma : List ℕ) → length lemma ≡ 0 → StopsShortOfRat clauses trail lemma
-short-empty clauses trail [] e = tt
-short-empty clauses trail (p ∷ ps) e = absurd (omega (arith, e))
-
-pub short-true : (clauses : List (List ℕ)) (trail lemma : List ℕ) (pivot : ℕ) → pivot ≡ get_or lemma 0 pivot → 0 < length lemma
-    → has trail (opposite pivot) ≡ true → StopsShortOfRat clauses trail lemma
-short-true clauses trail [] pivot e some there = absurd (omega (arith, some))
-short-true clauses trail (p ∷ ps) pivot e some there = inl (subst (λ (l : ℕ). has trail (opposite l) ≡ true) e there)
 
 pub short-resolvent : (clauses : List (List ℕ)) (trail lemma : List ℕ) (pivot : ℕ) → pivot ≡ get_or lemma 0 pivot → 0 < length lemma
     → StopsShortOfResolvent clauses trail lemma pivot → StopsShortOfRat clauses trail lemma
