@@ -11,11 +11,8 @@ ghost use Rattle.wf_argument.specs.Used.{scopes_in};
 use crate::used::count;
 use std::alloc::{AllocError, Global};
 use std::fmt::Write;
-use wf_argument_words::{SizeCount, put_about, put_count};
+use wf_argument_words::{MOST_PROCESSES, SizeCount, put_about, put_count};
 use wf_complex::Protocol;
-
-/// The most processes.
-const MOST_PROCESSES: u8 = 4;
 
 /// The executions of which lines speak: those that are marked.
 #[derive(Clone, Copy)]

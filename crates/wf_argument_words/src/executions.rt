@@ -19,8 +19,8 @@ use wf_complex::{Protocol, turn_count};
 use wf_simplex::{Simplex, Word, allowed_count};
 use wf_task::Task;
 
-/// The most processes.
-const MOST_PROCESSES: u8 = 4;
+/// The most processes of a task.
+pub const MOST_PROCESSES: u8 = 4;
 
 /// The first execution on an input simplex, and how many there are.
 #[derive(Clone, Copy, Debug)]

@@ -1,6 +1,6 @@
 //! The words of an argument: numbers, values, points, tuples and executions.
 //!
-//! - [`Executions`]: the executions of a task in words.
+//! - [`Executions`]: the executions of a task in words, of at most [`MOST_PROCESSES`].
 //! - [`write_executions`]: all of them, with their points.
 //! - [`put_values`], [`put_rest`], [`put_needed`]: what a step says of values and tuples.
 //! - [`list_values`]: the values of a set.
@@ -19,7 +19,7 @@ mod summary;
 mod values;
 mod words;
 
-pub use executions::Executions;
+pub use executions::{Executions, MOST_PROCESSES};
 pub use listed::write_executions;
 pub use subject::Subject;
 pub use summary::{SizeCount, put_about};
