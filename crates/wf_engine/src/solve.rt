@@ -40,7 +40,7 @@ type Branches = Stealing;
 /// The report is made whole before anything is written. The branches are shared out among workers,
 /// which are threads if there are several. What is answered and written is the same for any number
 /// of them; which branches were searched is not. One worker searches the branches in order, in this
-/// thread, and then the call always returns.
+/// thread.
 pub fn run_solve<T: Threads + Sync, R: Read, W: Write>(
     rt: &T,
     alloc: Global,
