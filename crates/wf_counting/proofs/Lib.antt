@@ -7,7 +7,6 @@ pub mod Words
 pub mod Rounds
 pub mod Signed
 pub mod DecidedFamilies
-pub mod Ranks
 pub mod Renaming
 -- Terms.
 pub mod Expansion

@@ -25,3 +25,4 @@ pub mod LeastChecked
 pub mod WholeReports
 pub mod FilledOutlines
 pub mod OutlinesAsSearches
+pub mod Ranks

@@ -1,5 +1,4 @@
 pub mod Among
-pub mod Ranks
 pub mod OwnViews
 pub mod Lifts
 pub mod Places

@@ -9,7 +9,7 @@ use Rattle.wf_model.specs.View.{View, base, seen, Views, views_of, process_of, v
 use Rattle.wf_model.specs.Points.{class}
 use Rattle.wf_model.proofs.Ascending.{Ascends}
 use Rattle.wf_trim.specs.Lift.{own_among, own_before, point_before}
-use Rattle.wf_trim.proofs.Ranks.{renamed_as_it_is, renamed_each_as_it_is, normal_within, ranks_apart}
+use Rattle.wf_model.proofs.Ranks.{renamed_as_it_is, renamed_each_as_it_is, normal_within, ranks_apart}
 
 -- ---- members
 
