@@ -1,5 +1,5 @@
 -- Where a process stands in an execution, and what is said of a step there.
-use Rattle.std.proofs.Common.{◌≡◌, ℕ, suc, ◌-◌, ◌<◌, ◌≤◌, ◌==◌, ◌++◌, append-nil, List, [], ◌∷◌, map, flat_map, zip, length, get_or, Bool, true, false, cond, Some, None, option_map, slice_get, refl, sym, ap, ◌∙◌, arith, codes}
+use Rattle.std.proofs.Common.{◌≡◌, ℕ, ◌-◌, ◌<◌, ◌≤◌, ◌++◌, append-nil, List, [], map, flat_map, zip, length, get_or, Some, None, option_map, slice_get, refl, sym, ap, ◌∙◌, arith, codes}
 use Rattle.std.specs.List.{slice_index_or}
 use Rattle.std.proofs.lemmas.List.{length-map, get_or_past}
 use Rattle.std.proofs.lemmas.Slice.Zip.{seconds-zip}
@@ -10,52 +10,12 @@ use Rattle.wf_model.specs.Problem.{Problem, Constraint, constraint_at, no_constr
 use Rattle.wf_model.specs.Check.{place_of}
 use Rattle.wf_complex.specs.Protocol.{Built, IsProtocol}
 use Rattle.wf_complex.proofs.Lemmas.{constraint_there, got, rule_inside, rule_there}
-use Rattle.wf_argument.specs.Places.{place_in}
+use Rattle.wf_simplex.specs.Entries.{place_in}
+use Rattle.wf_simplex.proofs.Places.{place_none, place_some}
 use Rattle.wf_argument_words.specs.Text.{NamedExecutions, execution_at, indented, points_in, rest_text}
 use Rattle.wf_argument.specs.State.{Gone, State, Taking, left_at, needed, take_each}
 use Rattle.wf_argument.specs.Text.{claim_text, grounds_text, taking_text, told_taking}
 use Rattle.wf_argument.specs.declared.reasons.Reason.{Reason}
-
--- ---- a process and its point
-
-place_none : (n c : ℕ) (ps vs : List ℕ) → length vs ≡ length ps → place_in n c ps ≡ None → place_of n c (zip ps vs) ≡ None
-place_none n c [] [] long h = refl
-place_none n c [] (v ∷ vs) long h = absurd (omega (arith, long))
-place_none n c (p ∷ ps) [] long h = absurd (omega (arith, long))
-place_none n c (p ∷ ps) (v ∷ vs) long h = by_test (p == c) refl (place_none (suc n) c ps vs (omega (arith, long))) h
-  where
-    by_test : (b : Bool) → (p == c) ≡ b → (place_in (suc n) c ps ≡ None → place_of (suc n) c (zip ps vs) ≡ None) → cond b (Some n) (place_in (suc n) c ps) ≡ None → place_of n c (zip (p ∷ ps) (v ∷ vs)) ≡ None
-    by_test true e rest h = absurd (let bad : ⊥ = cc in bad)
-    by_test false e rest h = ap (λ b. cond b (Some (n, v)) (place_of (suc n) c (zip ps vs))) e ∙ rest h
-
--- the place, counted from the first, and its point
-record PlaceIs (n c k : ℕ) (ps vs : List ℕ) : Type 0 where
-  pub from : n ≤ k
-  pub inside : k - n < length vs
-  pub at : place_of n c (zip ps vs) ≡ Some (k, get_or vs (k - n) 0)
-
-place_some : (n c k : ℕ) (ps vs : List ℕ) → length vs ≡ length ps → place_in n c ps ≡ Some k → PlaceIs n c k ps vs
-place_some n c k [] vs long h = absurd (let bad : ⊥ = cc in bad)
-place_some n c k (p ∷ ps) [] long h = absurd (omega (arith, long))
-place_some n c k (p ∷ ps) (v ∷ vs) long h = by_test (p == c) refl (place_some (suc n) c k ps vs (omega (arith, long))) h
-  where
-    by_test : (b : Bool) → (p == c) ≡ b → (place_in (suc n) c ps ≡ Some k → PlaceIs (suc n) c k ps vs) → cond b (Some n) (place_in (suc n) c ps) ≡ Some k → PlaceIs n c k (p ∷ ps) (v ∷ vs)
-    by_test true e found h =
-        let same : n ≡ k = cc in
-        let none : 0 ≡ k - n = omega (arith, same) in
-        record {
-          from = omega (arith, same);
-          inside = omega (arith, same);
-          at = ap (λ b. cond b (Some (n, v)) (place_of (suc n) c (zip ps vs))) e ∙ (λ i. Some (same i, get_or (v ∷ vs) (none i) 0));
-        }
-    by_test false e found h =
-        let rest = found h in
-        let next : suc (k - suc n) ≡ k - n = omega (arith, rest.from) in
-        record {
-          from = omega (arith, rest.from);
-          inside = omega (arith, rest.inside, rest.from);
-          at = ap (λ b. cond b (Some (n, v)) (place_of (suc n) c (zip ps vs))) e ∙ rest.at ∙ ap (λ j. Some (k, get_or (v ∷ vs) j 0)) next;
-        }
 
 -- ---- in an execution
 

@@ -4,7 +4,6 @@ pub mod State
 pub mod Text
 pub mod Laws
 -- What they say of the program's own: what it keeps, and what it is to tell.
-pub mod Places
 pub mod Seats
 pub mod Subject
 pub mod Trail

@@ -1,11 +1,9 @@
 //! The steps that take values.
 
-ghost use Rattle.std.specs.Prelude.{◌≡◌, ◌<◌, ◌≤◌, [], ◌++◌, ◌+◌, ◌^◌, codes, drop, get_or, length, string_bytes, IfOk, OnOk};
-ghost use Rattle.wf_model.specs.Simplex.{processes_of};
+ghost use Rattle.std.specs.Prelude.{◌≡◌, ◌<◌, ◌≤◌, ◌++◌, ◌+◌, ◌^◌, codes, drop, length, string_bytes, IfOk, OnOk};
 ghost use Rattle.wf_model.specs.Task.{inputs};
 ghost use Rattle.wf_model.specs.Problem.{constraint_at};
 ghost use Rattle.wf_model.specs.Check.{place_of};
-ghost use Rattle.wf_argument.specs.Places.{place_in};
 ghost use Rattle.wf_argument.specs.State.{after_taking, left_at};
 ghost use Rattle.wf_argument_words.specs.Subject.{IsMatched, executions_in, problem_in};
 ghost use Rattle.wf_argument.specs.Subject.{IsSeat, state_after, taking_left};
@@ -20,7 +18,6 @@ use crate::words::put_reasons;
 use std::alloc::AllocError;
 use std::fmt::Write;
 use wf_argument_words::{Subject, put_margin, put_needed, put_rest, put_values};
-use wf_task::Task;
 
 /// A step that takes values from a point of an execution.
 #[derive(Clone, Copy, Debug)]
@@ -89,7 +86,8 @@ pub(crate) fn put_taking(
         return Ok(());
     }
     let number = protocol.simplex_of(run.execution);
-    let Some(place) = place_of(subject.task, number, run.process) else {
+    let simplex = &subject.task.inputs().simplices()[number as usize];
+    let Some(place) = simplex.place(run.process) else {
         return Ok(());
     };
     let seat = Participant {
@@ -169,20 +167,6 @@ fn put_next(
     put_step(text, subject, &step, state, grounds)?;
     state.number += 1;
     Ok(count)
-}
-
-/// The place of a process in an input simplex, if it is there.
-fn place_of(task: &Task, number: u32, process: u8) -> Option<u8>
-    requires { number < length task.now.delta }
-    ensures { result ≡ place_in 0 process (processes_of (get_or (inputs task.now) number [])) }
-{
-    let simplex = &task.inputs().simplices()[number as usize];
-    for place in 0..simplex.colours() {
-        if simplex.colour(place) == process {
-            return Some(place);
-        }
-    }
-    None
 }
 
 /// Adds a step once its values are gone, with what it rests on.

@@ -150,6 +150,8 @@ fn simplices_know_their_vertices(rt: HostRuntime) -> Result<(), Fail> {
     let edge = Simplex::read(EDGE)?;
     assert!(rt; values(&edge) == (2, [None, Some(7), Some(0), None]));
     assert!(rt; ends(&edge) == Some((1, 3)));
+    assert!(rt; (edge.place(0), edge.place(1)) == (None, Some(0)));
+    assert!(rt; (edge.place(3), edge.place(4)) == (Some(1), None));
     assert!(rt; Simplex::of_pairs(&[(1, 7), (3, 0)]) == edge);
     Ok(())
 }

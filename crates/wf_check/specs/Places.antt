@@ -1,15 +1,10 @@
--- Where a process stands, and what an execution allows.
-use Rattle.std.specs.Prelude.{ℕ, suc, ◌==◌, List, [], ◌∷◌, map, zip, get_or, Option, Some, None, if◌then◌else◌}
+-- What an execution allows, and what a line says there.
+use Rattle.std.specs.Prelude.{ℕ, List, ◌∷◌, map, zip, get_or, if◌then◌else◌}
 use Rattle.wf_model.specs.Simplex.{Simplex, processes_of}
 use Rattle.wf_model.specs.Task.{Rule, Tuple}
 use Rattle.wf_model.specs.Problem.{Constraint}
 use Rattle.wf_model.specs.Box.{Box, candidates, is_supported, without}
 use Rattle.wf_model.specs.Check.{Verdict, fault, left, unsound}
-
--- the place of the process in a list whose first place has this number
-abbrev pub place_in : ℕ → ℕ → List ℕ → Option ℕ
-place_in n c [] = None
-place_in n c (p ∷ ps) = if p == c then Some n else place_in (suc n) c ps
 
 -- the tuples of each rule
 abbrev pub tuples_of : List Rule → List (List Tuple)

@@ -1,7 +1,6 @@
 //! The lines of a refutation, or of the way to a least map, one by one.
 
-ghost use Rattle.std.specs.Prelude.{ℕ, suc, ◌≡◌, ◌+◌, ◌<◌, ◌∷◌, [], List, IfSome, OnOk, true, get_or, length, map};
-ghost use Rattle.wf_model.specs.Simplex.{processes_of};
+ghost use Rattle.std.specs.Prelude.{ℕ, suc, ◌≡◌, ◌+◌, ◌<◌, ◌∷◌, [], List, IfSome, OnOk, true, length, map};
 ghost use Rattle.wf_model.specs.Task.{inputs};
 ghost use Rattle.wf_model.specs.Problem.{Problem};
 ghost use Rattle.wf_model.specs.Box.{Box};
@@ -12,7 +11,6 @@ ghost use Rattle.wf_set.specs.Sets.{box_of};
 ghost use Rattle.wf_check.specs.Blocks.{HasSamePoints, box_now, boxes_later, boxes_left};
 ghost use Rattle.wf_check.specs.Claims.{Ends, Judged, is_branch_of, verdict_on};
 ghost use Rattle.wf_check.specs.Left.{Takes, boxes, claimed, fault_of, lines_fault};
-ghost use Rattle.wf_check.specs.Places.{place_in};
 ghost use Rattle.wf_check.specs.Rules.{AreMatched, IsInside, problem_in, verdict_at};
 ghost use Rattle.wf_check.specs.Faults.{Judges, Steps};
 
@@ -307,7 +305,8 @@ fn participant_of<'a, 'b>(
     }
     let number = rules.protocol.simplex_of(execution);
     let points = rules.protocol.points_of(execution);
-    let Some(place) = place_of(rules.task, number, process) else {
+    let simplex = &rules.task.inputs().simplices()[number as usize];
+    let Some(place) = simplex.place(process) else {
         return None;
     };
     let support = &rules.checker.supports()[number as usize];
@@ -342,18 +341,4 @@ fn judge_removal(
     }
     blocks.take_out(points[place], value)?;
     Ok(())
-}
-
-/// The place of a process in an input simplex, if it is there.
-fn place_of(task: &Task, number: u32, process: u8) -> Option<u8>
-    requires { number < length task.now.delta }
-    ensures { result ≡ place_in 0 process (processes_of (get_or (inputs task.now) number [])) }
-{
-    let simplex = &task.inputs().simplices()[number as usize];
-    for place in 0..simplex.colours() {
-        if simplex.colour(place) == process {
-            return Some(place);
-        }
-    }
-    None
 }

@@ -12,3 +12,4 @@ pub mod KeyLemmas
 pub mod Adding
 pub mod FromFacets
 pub mod Lemmas
+pub mod Places

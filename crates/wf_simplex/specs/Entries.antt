@@ -1,5 +1,6 @@
--- A simplex as a table: for each process from 0 on its value, if it takes part.
-use Rattle.std.specs.Prelude.{ℕ, ◌+◌, List, [], ◌∷◌, Option, None, Some, nat_lt, nat_le, ◌==◌, ◌&&◌, if◌then◌else◌, Bool, true, false}
+-- A simplex as a table: for each process from 0 on its value, if it takes part. And where a process
+-- stands in a simplex.
+use Rattle.std.specs.Prelude.{ℕ, suc, ◌+◌, List, [], ◌∷◌, Option, None, Some, nat_lt, nat_le, ◌==◌, ◌&&◌, if◌then◌else◌, Bool, true, false}
 use Rattle.wf_model.specs.Simplex.{Simplex}
 
 -- the vertices that the table lists, its first entry being that of process n
@@ -12,6 +13,11 @@ vertices_from n (Some x ∷ entries) = (n, x) ∷ vertices_from (n + 1) entries
 abbrev pub value_at : Simplex → ℕ → Option ℕ
 value_at [] p = None
 value_at (v ∷ s) p = if v.0 == p then Some v.1 else value_at s p
+
+-- the place of a process in a list whose first place has this number
+abbrev pub place_in : ℕ → ℕ → List ℕ → Option ℕ
+place_in n process [] = None
+place_in n process (p ∷ ps) = if p == process then Some n else place_in (suc n) process ps
 
 -- the table of a simplex
 abbrev pub entries_of : Simplex → List (Option ℕ)

@@ -4,7 +4,7 @@ ghost use Rattle.std.specs.Prelude.{◌≡◌, ◌+◌, ℕ, ◌<◌, ◌≤◌,
 ghost use Rattle.wf_model.specs.Simplex.{processes_of, is_face, simplex_cmp};
 ghost use Rattle.wf_model.specs.Task.{IsTaskSimplex};
 ghost use Rattle.wf_simplex.specs.Adding.{faces_in_turn, joined};
-ghost use Rattle.wf_simplex.specs.Entries.{value_at};
+ghost use Rattle.wf_simplex.specs.Entries.{place_in, value_at};
 ghost use Rattle.wf_simplex.specs.Reading.{read_fault};
 
 use crate::keys::{ABSENT, NO_VERTEX, ONE_VERTEX, digit, entry, is_within, key_with};
@@ -130,6 +130,18 @@ impl Simplex {
             }
         }
         unreachable!()
+    }
+
+    /// The place of a process, the processes ascending, if it takes part.
+    pub fn place(&self, process: u8) -> Option<u8>
+        ensures { result ≡ place_in 0 process (processes_of self.now) }
+    {
+        for place in 0..self.colours() {
+            if self.colour(place) == process {
+                return Some(place);
+            }
+        }
+        None
     }
 
     /// The value of a process, if it takes part.
