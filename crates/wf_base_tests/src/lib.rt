@@ -1,5 +1,6 @@
-//! Tests of the public calls of the crates that the engines stand on, but for the search: tasks,
-//! reports and their checker, questions of branches, and the checker of solvers' proofs.
+//! Tests of the public calls of the crates that the engines stand on, but for the search: texts,
+//! simplices, tasks, views, reports and obstructions with their checkers, the finder, questions of
+//! branches, and the checkers of solvers' proofs.
 //!
 //! They stand in a crate of their own since a crate with tests is proved twice, with them and
 //! without; here the tests alone are proved, over the contracts of the crates below. What they add

@@ -15,9 +15,9 @@
 //!   same.
 //!
 //! What the branches are, `wf_model` says: the boxes into which [`wf_search::split`] cuts the root.
-//! The laws say what runs over all of them come to: where none of them has a decision map there is
-//! none ([`branches_cover_all_maps`]); and the parts that searches of the branches write are joined
-//! to the very text that a search of the whole question writes
+//! The laws say what runs over all branches come to. If no branch has a decision map, there is none
+//! ([`branches_cover_all_maps`]). In the full and the least form, the parts that searches of the
+//! branches write are joined to the very text that a search of the whole question writes
 //! ([`parts_of_searches_join_to_the_whole`]).
 #![tactic(auto)]
 

@@ -6,8 +6,8 @@
 //! - [`judge_header`], [`judge_map`] and [`LineChecker`]: the steps of a check. A `LineChecker`
 //!   takes lines one by one and keeps none, by [`LineRules`], for a [`Goal`].
 //!
-//! It stands on reports, protocol complexes and sets of values alone: what it accepts rests on
-//! nothing of the search.
+//! It stands on reports, tasks, protocol complexes and sets of values alone: what it accepts rests
+//! on nothing of the search.
 #![tactic(auto)]
 
 mod blocks;

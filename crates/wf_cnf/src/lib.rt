@@ -1,7 +1,7 @@
 //! The question of a task and its rounds for a SAT solver, and a solver's model as a map.
 //!
 //! - [`Question`]: the question as a formula in conjunctive normal form, written in the format that
-//!   solvers read. It has a model exactly where the task has a decision map: `wf_formula` has that
+//!   solvers read. It has a model exactly if the task has a decision map: `wf_formula` has that
 //!   law. That of a [`Branch`] asks for a map in it.
 //! - [`Variables`]: numbers the variables of the formula, by points and values.
 //! - [`Patterns`]: what the tuples of a rule forbid, found once for each rule; [`all_patterns`] has

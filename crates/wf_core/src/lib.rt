@@ -1,8 +1,8 @@
 //! The pool of workers as a pure machine.
 //!
 //! A pool has B branches and some workers. A worker takes a free branch and settles it: it posts
-//! the branch where it found a map, or finds that it has none, or cuts it, which it may where it
-//! has seen a lower branch posted. `Core` makes these events one by one, or refuses one with the
+//! the branch if it found a map, or finds that it has none, or cuts it, which it may if it has
+//! seen a lower branch posted. `Core` makes these events one by one, or refuses one with the
 //! first reason against it. `specs/Core.antt` says what an event needs and what it does; the
 //! functions of `laws` say what holds after every list of legal events.
 //!

@@ -1,7 +1,7 @@
 //! Equations modulo a prime power, and whether they contradict one another.
 //!
 //! An equation says that a sum of unknowns, each with a factor, is 0. The first unknown is the
-//! constant, which is 1. Equations are taken in one after another. Where one contradicts those
+//! constant, which is 1. Equations are taken in one after another. If one contradicts those
 //! before it, multipliers show it: multiplied by them and added up, the equations say that a
 //! constant other than 0 is 0. That it contradicts wherever it has to, and that the multipliers and
 //! the solution are right, is tested, and not proved: callers check what they get.

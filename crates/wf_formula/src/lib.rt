@@ -1,10 +1,10 @@
-//! The formula of a task: one that has a model exactly where the task has a decision map.
+//! The formula of a task: one that has a model exactly if the task has a decision map.
 //!
-//! What a formula and a model are, `wf_clauses` says. Here stand in `specs/`: `Patterns`, what the
-//! tuples of a rule forbid; `Encoding`, the formula of a problem; `Dimacs`, its text; and
-//! `Branches`, the formula for the maps in a box alone, with which each branch of a problem is a
-//! question of its own. The functions below are laws: a body is empty, and the clauses are what is
-//! proved. Each clause is one name, which `specs/Laws` defines.
+//! What a formula and a model are, `wf_clauses` says. Here `specs/` has `Patterns`, what the tuples
+//! of a rule forbid; `Encoding`, the formula of a problem; `Dimacs`, its text; and `SolverText`,
+//! what a solver says. `Branches` has the formula for the maps in a box alone, so each branch of a
+//! problem is a question of its own. The functions below are laws: a body is empty, and the clauses
+//! are what is proved. Each clause is one name, which `specs/Laws` defines.
 #![tactic(auto)]
 
 ghost use Rattle.wf_formula.specs.Laws.{FormulasNameTheirVariables, ModelsAreSolutions};

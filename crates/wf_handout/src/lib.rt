@@ -4,7 +4,7 @@
 //!   given back at the end.
 //! - [`Counter`]: one word that counts up. Whoever asks first gets the next branch.
 //! - [`Stealing`]: a deque for each worker, which steals from the next one's
-//!   where its own is empty.
+//!   if its own is empty.
 #![tactic(auto)]
 
 mod counter;

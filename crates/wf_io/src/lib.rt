@@ -3,7 +3,7 @@
 //!
 //! A contract can't say what a file or a terminal holds. So a [`Source`] counts the calls of its
 //! reader that failed and the bytes that it gave, and a [`Sink`] the calls of its writer that
-//! failed: a refusal for a failed read or write is then answered only where the count rose. For
+//! failed. A refusal for a failed read or write is then answered only if the count rose. For
 //! readers and writers over memory the contracts say every byte.
 #![tactic(auto)]
 

@@ -5,13 +5,13 @@
 //! - The terms of the field (Herlihy and Shavit 1999, Borowsky and Gafni 1997): `Simplex`, `Task`,
 //!   `Word`, `View`, `Execution`, `Points`, and `DecisionMap`, in which a decision map is a
 //!   function on the views. Read these first.
-//! - These terms by numbers: `Problem`, in which points have numbers and each execution is a
-//!   constraint; `Box`, `Refutation`, `Closing` and `Split`, which say what a refutation is, in
-//!   which order the search goes and how it is cut into branches; and `Check`, what a checker
-//!   answers. `problem_of` leads from the first level to the second.
+//! - These terms by numbers. In `Problem` points have numbers, and each execution is a constraint.
+//!   `Box`, `Refutation`, `Closing` and `Split` say what a refutation is, in which order the search
+//!   goes and how it is cut into branches. `Check` says what a checker answers. `problem_of` leads
+//!   from the first level to the second.
 //!
-//! `Report` and `ViewsText` are the texts, `Presets` the tasks that have names, and the files of
-//! examples hold by computation.
+//! `Report`, `ViewsText` and `PointsText` are the texts, `Presets` the tasks that have names, and
+//! the files of examples hold by computation.
 //!
 //! The public functions below are laws: a body is empty, and the clauses are what is proved. Each
 //! clause is one name, which `specs/Laws` defines in the file of the same subject. The main law is

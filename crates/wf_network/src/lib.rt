@@ -10,7 +10,7 @@
 //!   values that a rule supports at each place for candidates below 4, below 16, below 64, and any.
 //! - [`Memo`]: answers of the kernel, each at a place by its rule and its candidates.
 //! - [`candidates_at`], [`in_nibbles`], [`in_word`] and [`narrowed`]: the candidates of an
-//!   execution's points, and the same where each is below 4, 16 or 64.
+//!   execution's points, and the same if each is below 4, 16 or 64.
 #![tactic(auto)]
 
 mod leads;

@@ -6,7 +6,8 @@
 //!   [`run_over_report`](wf_verify_engine::run_over_report).
 //! - [`CertificateInWords`]: the certificate in words, for
 //!   [`run_over_pair`](wf_run::run_over_pair).
-//! - [`LiftedMap`]: the report of the map for more rounds, for the same.
+//! - [`LiftedMap`]: the report of the map for more rounds, for the same. It refuses a report for
+//!   more rounds than are asked for before the check.
 #![tactic(auto)]
 
 mod explain;

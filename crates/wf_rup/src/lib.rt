@@ -2,8 +2,8 @@
 //! reverse unit propagation (RUP), or is a resolution asymmetric tautology
 //! (RAT) on its first literal.
 //!
-//! It knows propositional logic alone, and nothing of who wrote the proof. The promise: where
-//! [`Checker::is_refuted`] answers true, and so where [`Proof::finish`] accepts, the clauses that
+//! It knows propositional logic alone, and nothing of who wrote the proof. The promise: if
+//! [`Checker::is_refuted`] answers true, and so if [`Proof::finish`] accepts, the clauses that
 //! were added have no common model, whatever the proof's bytes are. [`check_proof`] says the same
 //! of a formula and a proof that are there as a whole. A lemma that is RAT need not follow, so the
 //! promise rests on a weaker fact than that each lemma follows: each step keeps that there is a

@@ -1,6 +1,6 @@
-//! Tests of the search and of the workers that share it, through their public calls: kernels, boxes
-//! and searches, with rows worked out by hand; and the machine, the board, the handouts and the
-//! pool, in one thread, in a known order, and in several threads, in whatever order.
+//! Tests of the search and of the workers that share it, through their public calls. Kernels, boxes
+//! and searches have rows worked out by hand. The machine, the board, the handouts and the pool are
+//! called in one thread, in a known order, and in several threads, in whatever order.
 #![tactic(auto)]
 
 /// The line of a value that is lost.

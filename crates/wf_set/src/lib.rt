@@ -2,7 +2,7 @@
 //!
 //! A clause sees a set as the ascending list of its values, `values_in`, and
 //! each call is exact. Whoever goes through these calls alone knows nothing
-//! of words and bits. [`part`] has the same for a single word.
+//! of words and bits. [`part`] has most of these calls for a single word.
 //!
 //! No call takes memory.
 #![tactic(auto)]

@@ -1,7 +1,7 @@
 //! `wfcheck`: can a task be decided wait-free in r rounds of iterated immediate snapshot?
 //!
-//! The program is `wf_program`; here it is given its words, standard input, standard output and
-//! standard error, and a gate that tells how many branches are settled.
+//! The program is `wf_program`; here it is given its words, the files of the disk, standard input,
+//! standard output and standard error, and what tells how a run goes on.
 #![tactic(auto)]
 
 use std::io;
