@@ -57,7 +57,7 @@ pub enum Job {
         /// How many rounds the report is to be for, where they are asked for.
         rounds: Option<u32>,
     },
-    /// Check a report about a task while it is read, however long it is.
+    /// Check a report about a task while it is read, so that it may be longer than memory.
     VerifyLong {
         /// The file that has the task.
         task: String,
@@ -136,8 +136,8 @@ pub enum Job {
         /// The file that has the task.
         task: String,
     },
-    /// Tell in words why there is no decision map, or what the map decides,
-    /// by a report that is read and accepted.
+    /// Tell in words why there is no decision map, or what the map decides, by a report or an
+    /// obstruction that is read and accepted.
     Explain {
         /// The file that has the task.
         task: String,

@@ -50,8 +50,8 @@ BranchRefutationsAreTrue =
     → (t : Task) × GaveTask task task' t × HasBranch t rounds branch × HasNoMapIn t rounds branch
     × Wrote sink sink' (accepted_text branch (length (branches t rounds)) rounds)
 
-abbrev pub ListingBranchesIsCounted : Type 0
-ListingBranchesIsCounted =
+abbrev pub BranchAskingIsCounted : Type 0
+BranchAskingIsCounted =
     (text_of : Task → ℕ → ℕ → List ℕ) (rounds branch : ℕ) (source source' : Reading) (sink sink' : Writing) (result : Result (Unit {0}) RunFault)
     → ListsBranch text_of rounds branch source source' sink sink' result → IsCounted source source' sink sink' result
 

@@ -3,7 +3,7 @@
 
 ghost use Rattle.wf_branches.specs.Hints.{HintedBranchProvingIsCounted, HintedBranchRefutationsAreTrue};
 ghost use Rattle.wf_branches.specs.SolvedReports.{SolvedReportsAreAccepted};
-ghost use Rattle.wf_branches.specs.Laws.{BranchAnswersAreTrue, BranchesCoverAllMaps, BranchProvingIsCounted, BranchRefutationsAreTrue, BranchSolvingIsCounted, JoiningIsCounted, JoinsAreAccepted, JoinsAreTrue, JoinsOfSearchesAreWhole, ListingBranchesIsCounted, PartAcceptancesAreTrue, PartCheckingIsCounted, PartsOfSearchesAreJoined, PartsOfSearchesJoinToTheWhole};
+ghost use Rattle.wf_branches.specs.Laws.{BranchAnswersAreTrue, BranchesCoverAllMaps, BranchProvingIsCounted, BranchRefutationsAreTrue, BranchSolvingIsCounted, JoiningIsCounted, JoinsAreAccepted, JoinsAreTrue, JoinsOfSearchesAreWhole, BranchAskingIsCounted, PartAcceptancesAreTrue, PartCheckingIsCounted, PartsOfSearchesAreJoined, PartsOfSearchesJoinToTheWhole};
 
 /// Where no decision map lies in any branch of a task's question, no function
 /// on the views is a decision map.
@@ -34,8 +34,8 @@ pub fn hinted_branch_refutations_are_true()
 
 /// The writing of a branch's question takes at most one byte more than a text may have, tells each
 /// failed call, and writes nothing where it is refused for anything but a failed write.
-pub fn listing_branches_is_counted()
-    ensures { ListingBranchesIsCounted }
+pub fn branch_asking_is_counted()
+    ensures { BranchAskingIsCounted }
 {}
 
 /// The search of a branch takes at most one byte more than a text may have, tells each failed call,

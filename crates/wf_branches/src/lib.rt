@@ -34,10 +34,10 @@ mod verifying;
 pub use asking::BranchQuestion;
 pub use joining::WholeOfParts;
 pub use laws::{
-    branch_answers_are_true, branch_proving_is_counted, branch_refutations_are_true,
-    branch_solving_is_counted, branches_cover_all_maps, hinted_branch_proving_is_counted,
-    hinted_branch_refutations_are_true, joining_is_counted, joins_are_accepted, joins_are_true,
-    joins_of_searches_are_whole, listing_branches_is_counted, part_acceptances_are_true,
+    branch_answers_are_true, branch_asking_is_counted, branch_proving_is_counted,
+    branch_refutations_are_true, branch_solving_is_counted, branches_cover_all_maps,
+    hinted_branch_proving_is_counted, hinted_branch_refutations_are_true, joining_is_counted,
+    joins_are_accepted, joins_are_true, joins_of_searches_are_whole, part_acceptances_are_true,
     part_checking_is_counted, parts_of_searches_are_joined, parts_of_searches_join_to_the_whole,
     solved_reports_are_accepted,
 };

@@ -40,7 +40,7 @@ struct ReportedAnswer<'a> {
 /// decision map. A map with lines is accepted where it is a decision map, and the lines
 /// are those of a search of that box that refutes all smaller candidates and ends at the
 /// map; so no decision map is smaller. A map is looked at in several threads; lines are
-/// read one after another. Refused for out of memory only where a growth was refused.
+/// read one after another.
 pub fn check<R: Threads + Sync>(
     rt: &R,
     alloc: Global,

@@ -16,7 +16,7 @@ use wf_words::{Mistake, Piece, WordsFault, missing, parse};
 pub enum Check {
     /// A report or an obstruction, for these rounds if any are asked for.
     Certificate(Option<u32>),
-    /// A report of any length, for these rounds if any are asked for.
+    /// A report that may be longer than memory, for these rounds if any are asked for.
     LongReport(Option<u32>),
     /// A solver's clausal proof that there is no decision map after so many rounds.
     Proof(u32),

@@ -135,7 +135,7 @@ impl Protocol {
 
     /// The executions as they are packed, which are shared and not copied.
     ///
-    /// Refused where there are too many who share them.
+    /// Refused, for instance, if too many share them.
     pub fn packed(&self) -> Result<Arc<Vec<PackedExecution>, Global>, AllocError>
         ensures packed { IfOk result (λ executions. ArePacked self.now executions.value.items) }
         ensures few { IfOk result

@@ -72,7 +72,7 @@ IsAccountOf t r outcome.Nothing a = HasAccountOfNone (problem_of t r) a
 abbrev pub IsSolved : Form → Task → ℕ → Outcome × Account → List ℕ → Type 0
 IsSolved form t r (found, a) text = IsFound form t r found text × IsAccountOf t r found a
 
--- one worker searches the branches in order, up to the first with a map
+-- as many branches were searched as stand up to the first with a map, as in a search in order
 abbrev pub IsInOrder : Outcome × Account → Type 0
 IsInOrder (outcome.Map, a) = a.searched ≡ a.least + 1
 IsInOrder (outcome.Nothing, a) = a.searched ≡ a.branches

@@ -130,7 +130,7 @@ impl Network {
         self.executions[number]
     }
 
-    /// The executions in which a point stands. It takes no memory.
+    /// The executions in which a point stands: none is left out. It takes no memory.
     #[inline]
     pub fn users_of(&self, point: u32) -> &[MarkMask]
         requires network { IsNetwork self.now }

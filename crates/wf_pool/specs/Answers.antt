@@ -23,8 +23,8 @@ IsAnswer p kept (answer.Map m ls) =
 IsAnswer p kept (answer.Nothing ls) =
     ((canonical p (root p)).map ≡ None) × (map line_of ls.items ≡ refuting_lines kept (canonical p (root p)).lines)
 
--- The least is the branch whose box holds the map, and whose canonical search ends with it; every
--- branch up to it was searched, and each other one was searched or cut
+-- The least is the branch whose box holds the map, and whose canonical search ends with the map. At
+-- least as many branches were searched as stand up to this branch, and all others were cut.
 pub record HasAccountOfMap (p : Problem) (m : List ℕ) (a : Account) : Type 0 where
   pub branches : a.branches ≡ length (split p)
   pub holds : LiesAt m (split p) a.least
@@ -43,7 +43,7 @@ abbrev pub HasAccount : Problem → Answer → Account → Type 0
 HasAccount p (answer.Map m ls) a = HasAccountOfMap p m.items a
 HasAccount p (answer.Nothing ls) a = HasAccountOfNone p a
 
--- the branches were searched in order, up to the first with a map
+-- as many branches were searched as stand up to the first with a map, as in a search in order
 abbrev pub IsInOrder : Answer → Account → Type 0
 IsInOrder (answer.Map m ls) a = a.searched ≡ a.least + 1
 IsInOrder (answer.Nothing ls) a = a.searched ≡ a.branches

@@ -55,7 +55,7 @@ pub(crate) enum FileJob {
     Decisions,
     /// Write a report with the lines that are needed.
     Trim,
-    /// Tell in words why a report's lines leave no map, or what its map decides.
+    /// Tell in words why a report's lines or an obstruction leave no map, or what a map decides.
     Explain,
     /// Report a report's map for one round more, or for so many rounds.
     Lift(Option<u32>),

@@ -19,7 +19,7 @@ undecided_points t r = points_text t r []
 abbrev pub IsTextOf : (Task → ℕ → List ℕ) → Task → ℕ → Unit {0} → List ℕ → Type 0
 IsTextOf text_of t r answer text = text ≡ text_of t r
 
--- the points of the protocol complex of the source's task after r rounds were
--- listed, by such a text
+-- such a text about the source's task and its r rounds was written: a list of points or executions,
+-- or a question
 abbrev pub Lists : (Task → ℕ → List ℕ) → ℕ → Reading → Reading → Writing → Writing → Result (Unit {0}) RunFault → Type 0
 Lists text_of r source source' sink sink' result = Ran (Asks (IsTextOf text_of) r source source') sink sink' result
