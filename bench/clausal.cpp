@@ -6,37 +6,17 @@
 // watched, with another of its literals beside each watch, which mostly spares looking at the clause. A deletion finds its clause by a
 // hash of its literals, in whatever order; one that forces a literal is kept, as `drat-trim` does.
 #include <algorithm>
-#include <cstdint>
-#include <cstdio>
-#include <cstdlib>
 #include <unordered_map>
-#include <vector>
 
-using Literal = int;
-using Clause = std::vector<Literal>;
+#include "reading.hpp"
 
 namespace {
 
 const Literal kDelete = 1 << 30, kDeleted = -1;
 
-// the number of a literal: those of a variable stand side by side
-uint32_t index(Literal l) { return l > 0 ? 2u * l : 2u * -l + 1; }
-
-class Reader {
+class Reader : public Text {
   public:
-    explicit Reader(const char *name) : file_(fopen(name, "r")) {
-        if (!file_) exit(2);
-        setvbuf(file_, buffer_, _IOFBF, sizeof buffer_);
-    }
-    ~Reader() { fclose(file_); }
-    int variables() {
-        int variables = 0, clauses = 0, c = getc_unlocked(file_);
-        for (; c == 'c'; c = getc_unlocked(file_))
-            while ((c = getc_unlocked(file_)) != '\n' && c != EOF) {}
-        ungetc(c, file_);
-        if (fscanf(file_, "p cnf %d %d", &variables, &clauses) != 2) exit(2);
-        return variables;
-    }
+    using Text::Text;
     // the next literal, 0 at the end of a clause, kDelete before one that is deleted; false at the end of the text
     bool next(Literal &l) {
         int c = getc_unlocked(file_);
@@ -49,10 +29,6 @@ class Reader {
         if (negative) l = -l;
         return true;
     }
-
-  private:
-    FILE *file_;
-    char buffer_[1 << 16];
 };
 
 struct Watch { uint32_t clause; Literal other; };

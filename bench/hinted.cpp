@@ -5,47 +5,20 @@
 // The formula is in DIMACS, the proof in the text form of LRAT; both are taken to be well formed. Clauses stand one behind another in one
 // list, with a table from their ids to their places. True literals are marked with the number of the lemma, so nothing has to be undone.
 // Where half of the list is of deleted clauses, it is compacted.
-#include <cstdint>
-#include <cstdio>
-#include <cstdlib>
 #include <cstring>
-#include <vector>
 
-using Literal = int;
-using Clause = std::vector<Literal>;
+#include "reading.hpp"
+
 using Id = uint64_t;
 
 namespace {
 
 const size_t kFewDead = 4096;
 
-// the number of a literal: those of a variable stand side by side
-uint32_t index(Literal l) { return l > 0 ? 2u * l : 2u * -l + 1; }
-
-class Reader {
+class Reader : public Text {
   public:
-    explicit Reader(const char *name) : file_(fopen(name, "r")) {
-        if (!file_) exit(2);
-        setvbuf(file_, buffer_, _IOFBF, sizeof buffer_);
-    }
-    ~Reader() { fclose(file_); }
-    int variables() {
-        int variables = 0, clauses = 0;
-        skip_comments();
-        if (fscanf(file_, "p cnf %d %d", &variables, &clauses) != 2) exit(2);
-        return variables;
-    }
-    // passes over blanks and comments, and says what comes next
-    int peek() {
-        int c = getc_unlocked(file_);
-        while (c == ' ' || c == '\n') c = getc_unlocked(file_);
-        ungetc(c, file_);
-        return c;
-    }
-    void skip_comments() {
-        while (peek() == 'c')
-            for (int c = getc_unlocked(file_); c != '\n' && c != EOF;) c = getc_unlocked(file_);
-    }
+    using Text::Text;
+    using Text::skip_comments;
     // whether a letter comes next, which is passed over
     bool letter(char wanted) {
         if (peek() != wanted) return false;
@@ -71,10 +44,6 @@ class Reader {
         }
         return false;
     }
-
-  private:
-    FILE *file_;
-    char buffer_[1 << 16];
 };
 
 class Checker {
