@@ -21,9 +21,9 @@ const MANY_TURNS: u64 = 65_536;
 
 /// Tells on standard error how a run goes on. Of a search it tells how large the complex is, how
 /// many branches there are, a line for each settled branch, and, if none was settled for long, how
-/// many turns were taken since. Of the finder of obstructions it tells how many equations were taken
-/// in, and of a check of a proof which line is reached. If that can't be written nothing more can be
-/// done.
+/// many turns were taken since. Of the finder of obstructions it tells how many equations were
+/// taken in, and of a check of a proof which line is reached. If that can't be written nothing more
+/// can be done.
 #[derive(Drop)]
 struct ProgressLines<'a, R> {
     rt: &'a R,
