@@ -1,7 +1,7 @@
 //! Candidates in one word or in four for each point, from which the same functions take out.
 
-ghost use Rattle.std.specs.Prelude.{◌≡◌, ◌<◌, ◌≤◌, ◌==◌, ◌∷◌, [], not, filter, get_or, length, All, MatchOption};
-ghost use Rattle.std.specs.Bool.{OnTrue};
+ghost use Rattle.std.specs.Prelude.{◌≡◌, ◌≢◌, ◌<◌, ◌≤◌, ◌==◌, ◌∷◌, [], not, filter, get_or, length, All, MatchOption};
+ghost use Rattle.std.specs.Bool.{OnFalse, OnTrue};
 ghost use Rattle.wf_model.specs.Lists.{has};
 ghost use Rattle.wf_set.specs.Sets.{values_in};
 ghost use Rattle.wf_network.specs.Revising.{AreSame, found_at, wide_set, widened};
@@ -102,13 +102,15 @@ pub(crate) trait Candidates: Copy {
             ≡ filter (λ v. not (has (values_in (get_or (at_places supported.now) place [])) v))
             (values_in (get_or (at_places self.now) place [])) };
 
-    /// Whether the first points of an execution have just these candidates.
+    /// Whether the first points of an execution have just these candidates. No may be the answer
+    /// also where those past them have others.
     fn are_left(self, execution: PackedExecution, sets: &[Mask], places: u8) -> bool
         requires count { places ≤ 4 }
         requires long { length execution.points ≡ 4 }
         requires within { All (λ v. v < length sets.now) execution.points }
-        ensures { OnTrue result
-            (AreSame places (found_at execution sets.now) (at_places self)) };
+        ensures left { OnTrue result
+            (AreSame places (found_at execution sets.now) (at_places self)) }
+        ensures others { OnFalse result (found_at execution sets.now ≢ at_places self) };
 }
 
 /// Candidates below 64. Past the last place stand those of the first one again, as its point does.

@@ -2,6 +2,7 @@
 //! candidates are, since smaller ones are packed and their answers lie nearer each other.
 
 ghost use Rattle.std.specs.Prelude.{◌≡◌, ◌<◌, ◌*◌, ◌⊎◌, true, length};
+ghost use Rattle.std.specs.Bool.{OnTrue};
 ghost use Rattle.wf_network.specs.Marks.{KeepsBitsBut, bit_of};
 ghost use Rattle.wf_lane.specs.Table.{HasSupported};
 ghost use Rattle.wf_network.specs.Problems.{rule_in, rule_number};
@@ -221,6 +222,7 @@ fn take_lost<C: Candidates>(
 fn unmark(number: u32, all_left: bool, marks: &mut Marks)
     requires { number < 64 * length marks.old.words.items }
     ensures others { KeepsBitsBut marks.old.words.items marks.new.words.items number }
+    ensures taken { OnTrue all_left (bit_of marks.new.words.items number ≡ 0) }
     ensures left { bit_of marks.new.words.items number ≡ 0
         → (all_left ≡ true) ⊎ (bit_of marks.old.words.items number ≡ 0) }
     ensures long { length marks.new.words.items ≡ length marks.old.words.items }

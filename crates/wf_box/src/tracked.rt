@@ -1,6 +1,6 @@
 //! The candidates of each point, and what they were.
 
-ghost use Rattle.std.specs.Prelude.{◌≡◌, ◌<◌, ◌≤◌, [], true, length, take, IfOk};
+ghost use Rattle.std.specs.Prelude.{◌≡◌, ◌-◌, ◌<◌, ◌≤◌, [], true, length, take, vec_capacity, IfOk};
 ghost use Rattle.wf_model.specs.Lists.{has};
 ghost use Rattle.wf_model.specs.Box.{candidates, count, decided, first_open};
 ghost use Rattle.wf_set.specs.Sets.{box_of, values_in};
@@ -37,6 +37,8 @@ impl Tracked {
         ensures kept { IfOk result KeepsTrack }
         ensures words { IfOk result (λ tracked. tracked.words.items ≡ words.items) }
         ensures trail { IfOk result (λ tracked. tracked.trail.items ≡ []) }
+        ensures room { IfOk result (λ tracked. vec_capacity tracked.trail
+            ≡ count (box_of words.items)) }
     {
         let count = count_candidates(&words);
         Ok(Tracked {
@@ -77,6 +79,7 @@ impl Tracked {
     /// are left at most.
     pub(crate) fn room(&self) -> usize
         requires { KeepsTrack self.now }
+        ensures room { result ≡ vec_capacity self.now.trail - length self.now.trail.items }
         ensures enough { count (sets_in self.now) ≤ result }
         ensures few { result ≤ most_candidates }
     {

@@ -17,7 +17,7 @@ use Rattle.wf_network.proofs.LeftLemmas.{sets_at, supported_there}
 -- ---- parts of which one is not below a limit
 
 -- no other parts have the same sets
-same_parts : (parts others : List ℕ) → widened parts ≡ widened others → parts ≡ others
+pub same_parts : (parts others : List ℕ) → widened parts ≡ widened others → parts ≡ others
 same_parts [] [] same = refl
 same_parts [] (o ∷ others) same = absurd (let none : ⊥ = omega (arith, ap length same) in none)
 same_parts (p ∷ parts) [] same = absurd (let none : ⊥ = omega (arith, ap length same) in none)

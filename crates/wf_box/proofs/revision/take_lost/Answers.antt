@@ -166,7 +166,7 @@ returns g c = record {
         | inl is ↦
             loses_nothing n.rules.items x rule fewer left known (subst (λ m. IsWithin (length n.rules.items) m x) (sym done.long) inside) few left_here
             (left_supports rule.table (g.C.Candidates.at_places c.args.judged.supported) (g.C.Candidates.at_places c.args.judged.found) left (omega (arith, known.wide, few, c.requires.long)) (omega (arith, known.wide, few, left_long)) right
-            (λ i low. subst (λ b. OnTrue b (AreSame c.places-processes.result left (g.C.Candidates.at_places c.args.judged.supported))) is c.are_left-all_left.ensures i (omega (arith, low, known.wide, c.places-processes.ensures.count))))
+            (λ i low. subst (λ b. OnTrue b (AreSame c.places-processes.result left (g.C.Candidates.at_places c.args.judged.supported))) is c.are_left-all_left.ensures.left i (omega (arith, low, known.wide, c.places-processes.ensures.count))))
         | inr before ↦
             (let kept = c.places.invariant.4 before in
             nothing_lost (constraint_seen n.rules.items x) c.args.lines.now.items c.places.lines.items words fewer c.args.number kept
