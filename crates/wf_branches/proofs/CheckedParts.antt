@@ -102,7 +102,7 @@ module _ (t : Task) (r i : ℕ) where
 
   part_as_read : (text : List ℕ) (report : Report) → IsPartOf i (length (branches t r)) text (Ok report) → IsFaultlessIn t r i report → text ≡ part_text t r i report.body
   unfolding text_of_report
-  part_as_read text report (rest, is, read) right =
+  part_as_read text report (rest, is, few, read) right =
       is ∙ ap (λ x. part_head i (length (branches t r)) ++ x) ((read_written rest report read).0 ∙ ap report_text (about_rounds report right.faultless))
 
 -- ---- where it ends well

@@ -87,7 +87,7 @@ module _ (t : Task) (r : ℕ) where
       weaker IsStepWithin HasSmallValue step_small ls (subst IsBodyWithin (sym same) grammar.body).1
 
   report_small : (i : ℕ) (text : List ℕ) (report : Result Report RunFault) (body : Body) → IsPartOf i (length (branches t r)) text report → Next (AcceptsBody i t r) report (Ok body) → HasSmallLines body
-  report_small i text (Ok report) body (rest, begins, is) accepts = body_small body report (read_written rest report is).1 accepts.1
+  report_small i text (Ok report) body (rest, begins, few, is) accepts = body_small body report (read_written rest report is).1 accepts.1
   report_small i text (Err e) body is next = absurd (let bad : ⊥ = cc in bad)
 
   alone_small : (i : ℕ) (text : List ℕ) (alone : Result Body RunFault) (body : Body) → IsBodyIn i t r text alone → Ok body ≡ among_parts i alone → HasSmallLines body

@@ -5,6 +5,7 @@ use Rattle.wf_model.specs.Limits.{most_bytes}
 use Rattle.wf_model.specs.Task.{Task}
 use Rattle.wf_model.specs.Report.{Report, Body, report_about, report_of, report_text}
 use Rattle.wf_formula.specs.Branches.{branch_at, branches}
+use Rattle.wf_report.specs.declared.fault.CertFault.{CertFault}
 use Rattle.wf_report.specs.declared.fault.CertFault.TheVariants as amiss
 use Rattle.wf_report.proofs.Lemmas.{written_read}
 use Rattle.wf_check.specs.Within.{report_fault_within}
@@ -34,7 +35,7 @@ module _ (t : Task) (r i : ℕ) (body : Body) (within : IsWithin t r body) where
   its_report rest begins = ap (report_of 2) (behind_head rest begins) ∙ written_read (report_about t r body) within
 
   read_part : (report : Report) → IsPartOf i Count (part_text t r i body) (Ok report) → report ≡ report_about t r body
-  read_part report (rest, begins, is) =
+  read_part report (rest, begins, few, is) =
       let known = its_report rest begins in
       cc
 
@@ -55,15 +56,20 @@ module _ (t : Task) (r i : ℕ) (body : Body) (within : IsWithin t r body) where
   abbrev IsLong : Type 0
   IsLong = most_bytes < length (text_of_report t r body)
 
+  -- no line of it is bad
+  no_fault_in : (e : CertFault) → IsPartOf i Count (part_text t r i body) (Err (run.Cert e)) → ⊥
+  no_fault_in (amiss.Syntax k) (rest, begins, few, bad) =
+      let known = its_report rest begins in
+      cc
+  no_fault_in e (rest, begins, few, bad) = bad
+
   -- its text is read, or is too long
   unread : (e : RunFault) → IsPartOf i Count (part_text t r i body) (Err e) → (e ≡ run.OutOfMemory) ⊎ ((e ≡ run.TooLong) × (IsLong))
   unfolding text_of_report
   unread run.OtherPart is = absurd (is (report_text (report_about t r body)) refl)
   unread run.OutOfMemory is = inl refl
   unread run.TooLong (rest, begins, long) = inr (refl, subst (λ x. most_bytes < length x) (behind_head rest begins) long)
-  unread (run.Cert (amiss.Syntax k)) (rest, begins, bad) =
-      let known = its_report rest begins in
-      absurd (let never : ⊥ = cc in never)
+  unread (run.Cert e) is = absurd (no_fault_in e is)
   unread e (rest, begins, bad) = absurd bad
 
   module _ (accepted : IsAcceptedIn t r (branch_at t r i) body) where

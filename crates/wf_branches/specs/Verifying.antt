@@ -1,7 +1,8 @@
 -- A run over two sources: a task, and the part of an answer that says what
 -- one branch of its question has.
-use Rattle.std.specs.Prelude.{◌≡◌, ◌++◌, ℕ, Bool, true, false, not, List, length, None, Result, Ok, Err}
+use Rattle.std.specs.Prelude.{◌≡◌, ◌≤◌, ◌++◌, ℕ, Bool, true, false, not, List, length, None, Result, Ok, Err}
 use Rattle.std.specs.Cmp.Lexicographic.{pointwise}
+use Rattle.wf_model.specs.Limits.{most_bytes}
 use Rattle.wf_model.specs.Lists.{has}
 use Rattle.wf_model.specs.Task.{Task}
 use Rattle.wf_model.specs.View.{View}
@@ -21,11 +22,13 @@ use Rattle.wf_run.specs.declared.fault.RunFault.TheVariants.{Cert, OtherPart, No
 use Rattle.wf_branches.specs.Refuting.{HasNoMapIn, ReadsIn, accepted_in}
 use Rattle.wf_branches.specs.Solving.{IsLeastInBranch, part_head}
 
--- the report of a part about branch i of n, or why the text is none
+-- the report of a part about branch i of n, or why the text is none; where more bytes stand behind
+-- the head than a text may have, they are too long, whatever they are
 abbrev pub IsPartOf : ℕ → ℕ → List ℕ → Result Report RunFault → Type 0
-IsPartOf i n text (Ok report) = (rest : List ℕ) × (text ≡ part_head i n ++ rest) × (report_of 2 rest ≡ Ok report)
+IsPartOf i n text (Ok report) = (rest : List ℕ) × (text ≡ part_head i n ++ rest) × (length rest ≤ most_bytes) × (report_of 2 rest ≡ Ok report)
 IsPartOf i n text (Err OtherPart) = (rest : List ℕ) → text ≡ part_head i n ++ rest → ⊥
 IsPartOf i n text (Err OutOfMemory) = Unit {0}
+IsPartOf i n text (Err (Cert e)) = (rest : List ℕ) × (text ≡ part_head i n ++ rest) × (length rest ≤ most_bytes) × IsReportOf rest (Err (Cert e))
 IsPartOf i n text (Err e) = (rest : List ℕ) × (text ≡ part_head i n ++ rest) × IsReportOf rest (Err e)
 
 -- What a part says of branch i. A map lists a decision map over the points that lies there, and
