@@ -103,7 +103,7 @@ pub(crate) trait Candidates: Copy {
             (values_in (get_or (at_places self.now) place [])) };
 
     /// Whether the first points of an execution have just these candidates. No may be the answer
-    /// also where those past them have others.
+    /// also if points past them have others.
     fn are_left(self, execution: PackedExecution, sets: &[Mask], places: u8) -> bool
         requires count { places ≤ 4 }
         requires long { length execution.points ≡ 4 }

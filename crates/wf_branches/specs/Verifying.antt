@@ -22,7 +22,7 @@ use Rattle.wf_run.specs.declared.fault.RunFault.TheVariants.{Cert, OtherPart, No
 use Rattle.wf_branches.specs.Refuting.{HasNoMapIn, ReadsIn, accepted_in}
 use Rattle.wf_branches.specs.Solving.{IsLeastInBranch, part_head}
 
--- the report of a part about branch i of n, or why the text is none; where more bytes stand behind
+-- the report of a part about branch i of n, or why the text is none; if more bytes stand behind
 -- the head than a text may have, they are too long, whatever they are
 abbrev pub IsPartOf : ℕ → ℕ → List ℕ → Result Report RunFault → Type 0
 IsPartOf i n text (Ok report) = (rest : List ℕ) × (text ≡ part_head i n ++ rest) × (length rest ≤ most_bytes) × (report_of 2 rest ≡ Ok report)
