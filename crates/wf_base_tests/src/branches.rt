@@ -12,7 +12,7 @@ use std::test::Fail;
 use wf_complex::Protocol;
 use wf_examples::RENAMING_2_3;
 use wf_posing::pose_branch;
-use wf_rup::Proof;
+use wf_rup::{Checker, Proof};
 use wf_set::Mask;
 use wf_task::Task;
 
@@ -47,7 +47,7 @@ fn are_refuting(
     if sets.len() != protocol.points() as usize {
         return Ok(None);
     }
-    let mut checker = pose_branch(alloc, task, protocol, sets)?;
+    let mut checker = pose_branch::<Checker>(alloc, task, protocol, sets)?;
     let mut proof = Proof::new(alloc, checker.variables());
     let is_read = proof.feed(alloc, &mut checker, lemmas).is_ok();
     Ok(Some(is_read && checker.is_refuted()))

@@ -6,6 +6,7 @@ ghost use Rattle.wf_branches.specs.Refuting.{IsAcceptedBranch, ReadsIn};
 use crate::branch::branch_of;
 use std::io::Read;
 use wf_io::Source;
+use wf_posing::pose_branch;
 use wf_run::{Answered, SecondText, TextSubject};
 use wf_verify_engine::{ProofFormat, ProofListener};
 
@@ -33,9 +34,7 @@ impl<'a, P: ProofFormat, L: ProofListener> SecondText for NoneInBranch<'a, P, L>
     fn read_about<C: Read>(&self, subject: &TextSubject, source: &mut Source<C>) -> Answered<()> {
         let alloc = subject.alloc;
         let branch = branch_of(alloc, subject.task, subject.protocol, self.number)?;
-        let checker = self
-            .format
-            .pose_branch(alloc, subject.task, subject.protocol, &branch.sets)?;
+        let checker = pose_branch(alloc, subject.task, subject.protocol, &branch.sets)?;
         self.format
             .read_from(alloc, source, checker, self.listener)?;
         let index = branch.index();

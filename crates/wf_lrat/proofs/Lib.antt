@@ -8,5 +8,4 @@ pub mod PackLemmas
 pub mod FirstsLemmas
 pub mod ModelLemmas
 pub mod FedLemmas
-pub mod GivenLemmas
 pub mod PieceLemmas

@@ -1,7 +1,6 @@
 -- What contracts say, here and in the crates above.
 pub mod Ledger
 pub mod Hints
-pub mod Given
 pub mod Models
 pub mod Fed
 pub mod Slots

@@ -1,2 +1,1 @@
 pub mod PosingLemmas
-pub mod ExclusionLemmas

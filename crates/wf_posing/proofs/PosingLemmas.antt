@@ -1,55 +1,66 @@
--- Clauses that are added to a checker, and the models that it keeps.
+-- Clauses that are added to a checker.
 use Rattle.std.proofs.Common.{◌≡◌, ℕ, ◌+◌, ◌<◌, ◌≤◌, Bool, true, false, List, [], ◌∷◌, ◌++◌, map, zip, length, take, get_or, min, slice_index, flat_map, refl, sym, ap, ◌∙◌, subst, arith, append-nil, append_assoc}
 use Rattle.std.proofs.lemmas.List.{map-append, take_more}
-use Rattle.std.proofs.lemmas.List.Elements.{All-from_recursion, recursion_from_All}
 use Rattle.std.proofs.lemmas.Slice.Zip.{length-zip, get_or-zip}
-use Rattle.std.specs.Prelude.{if◌then◌else◌}
+use Rattle.std.specs.Prelude.{if◌then◌else◌, IfOk, Result, Ok, Err}
 use Rattle.std.proofs.lemmas.Bool.{false≢true}
 use Rattle.std.proofs.lemmas.List.Concat.{flat_map-append}
 use Rattle.wf_model.specs.Limits.{most_points}
 use Rattle.wf_model.specs.Lists.{below}
 use Rattle.wf_model.proofs.Basics.{below_next}
 use Rattle.wf_set.specs.Sets.{values_in}
-use Rattle.wf_clauses.specs.Formula.{Assignment, Clause, Formula, Literal, SatisfiesAll, satisfies}
+use Rattle.wf_clauses.specs.Formula.{Clause, Formula, Literal}
 use Rattle.wf_formula.specs.Encoding.{at_least_one, question, variable}
-use Rattle.wf_formula.proofs.Members.{In, each_from_in, each_in, in_left, in_right}
 use Rattle.wf_rup.specs.Codes.{most_variables}
+use Rattle.wf_rup.specs.Kept.{AddsAtMost, IsKept, KnowsStill}
+use Rattle.wf_rup.specs.Posed.{IsPosed}
 use Rattle.wf_rup.specs.Seen.{KeepsModelsOf, Known, KnowsNothing}
-use Rattle.wf_rup.specs.Posed.{FollowsFrom, KeepsModelsOfAll}
+use Rattle.wf_rup.proofs.PosedLemmas.{posed_more, posed_none}
 use Rattle.wf_model.specs.Task.{Task, values}
 use Rattle.wf_complex.specs.Protocol.{Built, IsProtocol}
 use Rattle.wf_formula.specs.Patterns.{Pattern}
 use Rattle.wf_cnf.specs.Clauses.{clauses_on, patterns_of}
+use Rattle.wf_posing.specs.Posed.{Adds, with_clauses}
 use Rattle.wf_cnf.proofs.Lemmas.{clauses_same, few_ranks, few_values, product_few}
 
--- ---- clauses among others
+-- ---- clauses that are added
 
-satisfied_in : (a : Assignment) (all : List Clause) (clause : Clause) → SatisfiesAll a all → In clause all → satisfies a clause ≡ true
-satisfied_in a all clause h among = each_in (λ c. satisfies a c ≡ true) all clause (recursion_from_All (λ c. satisfies a c ≡ true) all h) among
+-- no clause is added
+pub adds_none : {C : Type 0} (is_posed : Formula → C → Type 0) (now : C) → Adds is_posed [] now now
+adds_none is_posed now f posed =
+    let same : f ≡ with_clauses [] f = λ i. record { variables = f.variables; clauses = sym (append-nil f.clauses) i } in
+    subst (λ g. is_posed g now) same posed
 
-pub satisfied_some : (a : Assignment) (all some : List Clause) → ((clause : Clause) → In clause some → In clause all) → SatisfiesAll a all → SatisfiesAll a some
-satisfied_some a all some within h =
-    All-from_recursion (λ c. satisfies a c ≡ true) some (each_from_in (λ c. satisfies a c ≡ true) some (λ clause here. satisfied_in a all clause h (within clause here)))
+-- further clauses are added
+pub adds_more : {C : Type 0} (is_posed : Formula → C → Type 0) (some next told more : List Clause) (old now new : C) → more ≡ some ++ next → told ≡ next
+    → Adds is_posed some old now → Adds is_posed told now new → Adds is_posed more old new
+adds_more is_posed some next told more old now new whole same so_far all f posed =
+    let both : (f.clauses ++ some) ++ told ≡ f.clauses ++ more =
+    append_assoc f.clauses some told ∙ ap (λ cs. f.clauses ++ (some ++ cs)) same ∙ ap (λ cs. f.clauses ++ cs) (sym whole) in
+    let is : with_clauses told (with_clauses some f) ≡ with_clauses more f = λ i. record { variables = f.variables; clauses = both i } in
+    subst (λ g. is_posed g new) is (all (with_clauses some f) (so_far f posed))
 
--- one of the clauses is added
-pub keeps_one : (all : List Clause) (clause added : Clause) (old now new : Known) → In clause all → added ≡ clause
-    → KeepsModelsOfAll all old now → KeepsModelsOf added now new → KeepsModelsOfAll all old new
-keeps_one all clause added old now new among is so_far kept = λ a model h.
-    kept a (so_far a model h) (ap (satisfies a) is ∙ satisfied_in a all clause h among)
+-- the first of those that are left is added
+pub adds_next : {C : Type 0} (is_posed : Formula → C → Type 0) (f : ℕ → Clause) (v : ℕ) (left rest : List ℕ) (told : Clause) (now new later : C) → left ≡ v ∷ rest → told ≡ f v
+    → Adds is_posed (told ∷ []) now new → Adds is_posed (map f rest) new later → Adds is_posed (map f left) now later
+adds_next is_posed f v left rest told now new later is same one others =
+    adds_more is_posed (told ∷ []) (map f rest) (map f rest) (map f left) now new later
+    (ap (map f) is ∙ ap (λ c. c ∷ map f rest) (sym same)) refl one others
 
--- some of the clauses are added
-pub keeps_some : (all some added : List Clause) (old now new : Known) → ((clause : Clause) → In clause some → In clause all) → added ≡ some
-    → KeepsModelsOfAll all old now → KeepsModelsOfAll added now new → KeepsModelsOfAll all old new
-keeps_some all some added old now new within is so_far kept = λ a model h.
-    kept a (so_far a model h) (subst (SatisfiesAll a) (sym is) (satisfied_some a all some within h))
+-- ---- a checker of clausal proofs
 
--- first some of the clauses of a formula are added, then the others
-pub follows : (f : Formula) (first second : List Clause) (none some known : Known) → first ++ second ≡ f.clauses
-    → KnowsNothing none → KeepsModelsOfAll first none some → KeepsModelsOfAll second some known → FollowsFrom f known
-follows f first second none some known whole nothing begun ended = λ a model.
-    let h : SatisfiesAll a (first ++ second) = subst (SatisfiesAll a) (sym whole) model in
-    ended a (begun a (nothing a) (satisfied_some a (first ++ second) first (λ clause here. in_left first second clause here) h))
-    (satisfied_some a (first ++ second) second (λ clause here. in_right first second clause here) h)
+-- a new checker knows the formula without a clause
+pub posed_on : {E : Type 0} (r : Result Known E) (variables : ℕ) → IfOk r KnowsNothing → IfOk r (λ known. known.clauses ≡ []) → IfOk r (λ known. known.variables ≡ variables)
+    → IfOk r (IsPosed (record { variables = variables; clauses = [] }))
+posed_on (Ok known) variables nothing none same = posed_none variables known nothing none same
+posed_on (Err e) variables nothing none same = tt
+
+-- one that is told a clause knows it behind those of the formula
+pub adds_clause : {X E : Type 0} (r : Result X E) (clause : Clause) (old new : Known) → KeepsModelsOf clause old new
+    → IfOk r (λ done. IsKept clause new) → IfOk r (λ done. KnowsStill old new) → IfOk r (λ done. AddsAtMost clause old new) → IfOk r (λ done. Adds IsPosed (clause ∷ []) old new)
+adds_clause (Ok done) clause old new sound kept still alone =
+    λ f posed. posed_more f (with_clauses (clause ∷ []) f) clause old new refl refl posed sound kept still alone
+adds_clause (Err e) clause old new sound kept still alone = tt
 
 -- ---- patterns and executions
 

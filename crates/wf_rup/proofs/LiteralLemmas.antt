@@ -1,15 +1,12 @@
 -- Literals and their codes say the same.
-use Rattle.std.proofs.Common.{◌≡◌, ℕ, ◌+◌, ◌*◌, ◌/◌, ◌%◌, ◌<◌, Bool, true, false, List, [], ◌∷◌, refl, sym, subst, ◌∙◌, ap, arith, map, length, take, get_or}
-use Rattle.std.specs.Prelude.{◌==◌, not, Vec, if◌then◌else◌, ◌&&◌}
+use Rattle.std.proofs.Common.{◌≡◌, ℕ, ◌+◌, ◌*◌, ◌/◌, ◌%◌, Bool, true, false, List, [], ◌∷◌, refl, sym, subst, ◌∙◌, ap, arith, map}
+use Rattle.std.specs.Prelude.{◌==◌, not, if◌then◌else◌}
 use Rattle.std.specs.List.{list_all}
 use Rattle.std.proofs.lemmas.List.Sums.{AllPass-from_list_all, list_all-from_AllPass}
-use Rattle.std.proofs.lemmas.List.Folds.{list_all-map, list_all_more}
-use Rattle.std.proofs.lemmas.Bool.{false≢true}
-use Rattle.wf_clauses.specs.Formula.{Assignment, Literal, SatisfiesAll, holds, neg, pos, satisfies}
+use Rattle.wf_clauses.specs.Formula.{Assignment, Literal, holds, neg, pos, satisfies}
 use Rattle.wf_drat.specs.Codes.{code_of, hold_codes, holds_code, is_model_of_codes, literal_of, satisfies_codes}
 use Rattle.wf_rup.specs.Stored.{IsModelOfStored, KeepsStoredModels, KeepsStoredModelsOf, Stored}
 use Rattle.wf_rup.specs.Seen.{IsModelOf, KeepsModels, KeepsModelsOf, Known, known_of}
-use Rattle.wf_rup.specs.Whole.{clauses_of}
 
 -- a literal is that of its code
 pub literal_of-code_of : (l : Literal) → literal_of (code_of l) ≡ l
@@ -65,21 +62,6 @@ model_of_stored v a s model = record {
   clauses = sym (satisfies_all-literals a s.clauses) ∙ list_all-from_AllPass (satisfies a) _ model.clauses;
   unrefuted = model.unrefuted;
 }
-
-and-both : (x y : Bool) → (x && y) ≡ true → (x ≡ true) × (y ≡ true)
-and-both true y h = (refl, h)
-and-both false y h = absurd (false≢true h)
-
--- an assignment that satisfies one clause more satisfies those before, and that one
-pub satisfies_all-more : {A : Type 0} (a : Assignment) (vs : List (Vec Literal A)) (i : ℕ) (v : Vec Literal A) → i < length vs → v ≡ get_or vs i v
-    → SatisfiesAll a (clauses_of (take (i + 1) vs)) → SatisfiesAll a (clauses_of (take i vs)) × (satisfies a v.items ≡ true)
-satisfies_all-more {A} a vs i v within e model =
-    let p : Vec Literal A → Bool = λ w. satisfies a w.items in
-    let as_lists : (ws : List (Vec Literal A)) → list_all (satisfies a) (clauses_of ws) ≡ list_all p ws = λ ws. list_all-map (satisfies a) (λ (w : Vec Literal A). w.items) ws in
-    let more : list_all p (take (i + 1) vs) ≡ (list_all p (take i vs) && p (get_or vs i v)) = list_all_more p vs i v within in
-    let both : (list_all p (take i vs) ≡ true) × (p (get_or vs i v) ≡ true) =
-    and-both _ _ (sym more ∙ sym (as_lists (take (i + 1) vs)) ∙ list_all-from_AllPass (satisfies a) _ model) in
-    (AllPass-from_list_all (satisfies a) _ (as_lists (take i vs) ∙ both.0), ap p e ∙ both.1)
 
 -- ---- what is kept of what is stored is kept of what is known
 

@@ -108,16 +108,6 @@ model-before a old new still model = record {
 
 -- ---- what stays known
 
-front-same : {X : Type 0} (old mid new : List X) → take (length old) mid ≡ old → take (length mid) new ≡ mid → take (length old) new ≡ old
-front-same [] mid new first second = refl
-front-same (x ∷ xs) [] new first second = absurd (let bad : ⊥ = cc in bad)
-front-same (x ∷ xs) (y ∷ ys) [] first second = absurd (let bad : ⊥ = cc in bad)
-front-same {X} (x ∷ xs) (y ∷ ys) (z ∷ zs) first second =
-    let here : z ≡ x = cc in
-    let one : take (length xs) ys ≡ xs = cc in
-    let two : take (length ys) zs ≡ ys = cc in
-    ap (λ w. w ∷ take (length xs) zs) here ∙ ap (λ ws. x ∷ ws) (front-same xs ys zs one two)
-
 contains-front : {X : Type 0} (old new : List X) (x : X) → take (length old) new ≡ old → Contains old x → Contains new x
 contains-front old new x front (k, within, is) =
     let long : length (take (length old) new) ≡ length old = ap length front in
@@ -126,14 +116,6 @@ contains-front old new x front (k, within, is) =
 
 pub still-same : (known : Known) → KnowsStill known known
 still-same known = record { variables = refl; literals = take-length known.literals; clauses = take-length known.clauses; refuted = λ was. was }
-
-pub still-both : (old mid new : Known) → KnowsStill old mid → KnowsStill mid new → KnowsStill old new
-still-both old mid new first second = record {
-  variables = second.variables ∙ first.variables;
-  literals = front-same old.literals mid.literals new.literals first.literals second.literals;
-  clauses = front-same old.clauses mid.clauses new.clauses first.clauses second.clauses;
-  refuted = λ was. second.refuted (first.refuted was);
-}
 
 -- what is kept stays so where nothing is lost
 pub kept-on : (clause : Clause) (old new : Known) → KnowsStill old new → IsKept clause old → IsKept clause new

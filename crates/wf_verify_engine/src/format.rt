@@ -1,12 +1,7 @@
 //! The two formats of SAT solvers' proofs, each with its checker.
 
-ghost use Rattle.std.specs.Prelude.{◌≡◌, ℕ, Err, IfOk, List, Option, Result, length, map};
+ghost use Rattle.std.specs.Prelude.{◌≡◌, ℕ, Err, List, Option, Result};
 ghost use Rattle.wf_clauses.specs.Formula.{Formula, IsUnsatisfiable};
-ghost use Rattle.wf_model.specs.Problem.{problem_of};
-ghost use Rattle.wf_complex.specs.Protocol.{IsProtocol};
-ghost use Rattle.wf_set.specs.Sets.{values_in};
-ghost use Rattle.wf_formula.specs.Branches.{formula_in};
-ghost use Rattle.wf_formula.specs.Encoding.{question};
 ghost use Rattle.wf_io.specs.Ends.{CanRead};
 ghost use Rattle.wf_io.specs.Seen.{Reading};
 ghost use Rattle.wf_run.specs.declared.fault.RunFault.{RunFault};
@@ -16,21 +11,18 @@ ghost use Rattle.wf_verify_engine.specs.Proofs.{ReadsBytes};
 use crate::listener::ProofListener;
 use crate::pieces::read_proof;
 use crate::readers::{ClausalProofReader, HintedProofReader};
-use std::alloc::{AllocError, Global};
+use std::alloc::Global;
 use std::io::Read;
-use wf_complex::Protocol;
 use wf_io::Source;
 use wf_lrat::HintChecker;
-use wf_posing::{pose, pose_branch, pose_branch_hints, pose_hints};
+use wf_posing::ClauseTaker;
 use wf_run::RunFault;
 use wf_rup::Checker;
-use wf_set::Mask;
-use wf_task::Task;
 
 /// A format of SAT solvers' proofs, with its checker.
 pub trait ProofFormat {
     /// The checker of such proofs.
-    type Checker: Drop;
+    type Checker: ClauseTaker;
 
     // a checker knows this formula, and nothing else
     ghost is_posed: { Formula → Self.Checker → Type 0 };
@@ -58,32 +50,6 @@ pub trait ProofFormat {
         (is_refused checker) old new result
         → reads f holds old new result };
 
-    /// A checker that knows the question of a task on its protocol complex. If a proof is accepted
-    /// about what the checker knows, the task has no decision map there. Refused if memory runs
-    /// out.
-    fn pose(
-        &self,
-        alloc: Global,
-        task: &Task,
-        protocol: &Protocol,
-    ) -> Result<Self::Checker, AllocError>
-        requires { IsProtocol task.now protocol.now.rounds protocol.now }
-        ensures { IfOk result (is_posed (question task.now protocol.now.rounds)) };
-
-    /// A checker that knows the question of a branch, by the values that the branch has at each
-    /// point.
-    fn pose_branch(
-        &self,
-        alloc: Global,
-        task: &Task,
-        protocol: &Protocol,
-        sets: &[Mask],
-    ) -> Result<Self::Checker, AllocError>
-        requires protocol { IsProtocol task.now protocol.now.rounds protocol.now }
-        requires sets { length sets.now ≡ length protocol.now.points }
-        ensures { IfOk result (is_posed (formula_in
-            (problem_of task.now protocol.now.rounds) (map values_in sets.now))) };
-
     /// Reads a source to its end as a proof that what a checker knows has no model. If the source's
     /// bytes are no such proof, they are refused with the first fault, or with `1 TooLong` or
     /// `30 Read`. If there is a listener, the listener is told how the check goes on.
@@ -97,6 +63,10 @@ pub trait ProofFormat {
         requires { CanRead source.old }
         ensures { ReadsBytes (λ given done. is_accepted checker given) (is_refused checker)
             source.old source.new result };
+
+    // a checker knows a formula that was posed to it
+    ghost is_known: { (f : Formula) (checker : Self.Checker)
+        → Self.Checker.is_posed f checker → is_posed f checker };
 
     // what a proof is accepted for is true
     ghost is_sound: { (f : Formula) (checker : Self.Checker) (given : List ℕ)
@@ -128,21 +98,9 @@ impl ProofFormat for Clausal {
 
     ghost is_read = { proof_read };
 
+    ghost is_known = { λ f known posed. posed };
+
     ghost is_sound = { λ f known given. proof_refutes f known };
-
-    fn pose(&self, alloc: Global, task: &Task, protocol: &Protocol) -> Result<Checker, AllocError> {
-        pose(alloc, task, protocol)
-    }
-
-    fn pose_branch(
-        &self,
-        alloc: Global,
-        task: &Task,
-        protocol: &Protocol,
-        sets: &[Mask],
-    ) -> Result<Checker, AllocError> {
-        pose_branch(alloc, task, protocol, sets)
-    }
 
     fn read_from<L: ProofListener, C: Read>(
         &self,
@@ -181,26 +139,9 @@ impl ProofFormat for Hinted {
 
     ghost is_read = { hints_read };
 
+    ghost is_known = { λ f ledger posed. posed };
+
     ghost is_sound = { hints_refute };
-
-    fn pose(
-        &self,
-        alloc: Global,
-        task: &Task,
-        protocol: &Protocol,
-    ) -> Result<HintChecker, AllocError> {
-        pose_hints(alloc, task, protocol)
-    }
-
-    fn pose_branch(
-        &self,
-        alloc: Global,
-        task: &Task,
-        protocol: &Protocol,
-        sets: &[Mask],
-    ) -> Result<HintChecker, AllocError> {
-        pose_branch_hints(alloc, task, protocol, sets)
-    }
 
     fn read_from<L: ProofListener, C: Read>(
         &self,

@@ -8,6 +8,7 @@ use crate::listener::ProofListener;
 use crate::verify::accepted_text;
 use std::io::Read;
 use wf_io::Source;
+use wf_posing::pose;
 use wf_report::Body;
 use wf_run::{Answered, SecondText, TextSubject};
 
@@ -32,7 +33,7 @@ impl<'a, P: ProofFormat, L: ProofListener> SecondText for NoneByProof<'a, P, L> 
 
     fn read_about<C: Read>(&self, subject: &TextSubject, source: &mut Source<C>) -> Answered<()> {
         let alloc = subject.alloc;
-        let checker = self.format.pose(alloc, subject.task, subject.protocol)?;
+        let checker = pose(alloc, subject.task, subject.protocol)?;
         self.format
             .read_from(alloc, source, checker, self.listener)?;
         let text = accepted_text(

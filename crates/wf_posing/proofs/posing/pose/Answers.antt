@@ -7,18 +7,17 @@ use Rattle.wf_formula.specs.Encoding.{at_least_one, question}
 use Rattle.wf_cnf.specs.Patterns.{patterns_seen}
 use Rattle.wf_cnf.specs.Clauses.{clauses_on}
 use Rattle.wf_posing.specs.Posed.{formula_on}
-use Rattle.wf_rup.specs.Posed.{IsPosed}
 use Rattle.wf_cnf.proofs.Lemmas.{covered}
 use Rattle.wf_posing.proofs.PosingLemmas.{clauses_are_question}
 use Rattle.wf_posing.proofs.posing.pose.Goals as goal
 
 pub posed-requires-clause-covered : goal.posed-requires-clause-covered
-posed-requires-clause-covered c =
+posed-requires-clause-covered g c =
     let few : length c.args.protocol.now.points ≤ most_points = subst (λ n. n ≤ most_points) c.points-points.ensures.points c.points-points.ensures.few in
     covered c.args.task.now c.args.protocol.now.rounds c.args.protocol.now (map patterns_seen c.deref.result.now) c.requires few (ap (map patterns_seen) c.deref.ensures.value ∙ c.in_ok-patterns.ensures)
 
 pub returns : goal.returns
-returns c =
+returns g c =
     let t = c.args.task.now in
     let b = c.args.protocol.now in
     let points = c.points-points.result in
@@ -30,4 +29,4 @@ returns c =
     ∙ clauses_are_question t b.rounds b all (map patterns_seen c.in_ok-patterns.patterns.items) c.requires all_is c.in_ok-patterns.ensures in
     let many = c.points-points.ensures.points ∙ ap length c.requires.points_are in
     let same : formula_on all patterns points b ≡ question t b.rounds = λ i. record { variables = many i * length (all_is i); clauses = whole i } in
-    subst (λ f. IfOk c.posed.result (IsPosed f)) same c.posed.ensures
+    subst (λ f. IfOk c.posed.result (g.C.ClauseTaker.is_posed f)) same c.posed.ensures

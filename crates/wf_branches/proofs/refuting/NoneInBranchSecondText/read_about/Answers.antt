@@ -36,7 +36,7 @@ returns-in_err-read_from g c =
     let result = c.from_residual-in_err-read_from.result in
     let found = c.in_ok-branch.ensures.found in
     let reads : ℕ → ReadsAbout = λ i t r. g.P.ProofFormat.reads (branch_question t r i) (IsAcceptedBranch i t r) in
-    let posed = posed_in g.P.ProofFormat.is_posed t r i c.in_ok-branch.branch c.deref.result.now checker found c.deref.ensures.value c.in_ok-checker.ensures in
+    let posed = posed_in g.P.ProofFormat.is_posed t r i c.in_ok-branch.branch c.deref.result.now checker found c.deref.ensures.value (g.met.P.ProofFormat.is_known _ checker c.in_ok-checker.ensures) in
     found_in reads i t r old i new (answered result) refl found.there
     (refused_so (reads i t r old new) e result c.from_residual-in_err-read_from.ensures
     (g.P.ProofFormat.is_read (branch_question t r i) checker (IsAcceptedBranch i t r) old new (Err e) posed
@@ -53,7 +53,7 @@ returns-in_err-text g c =
     let result = c.from_residual-in_err-text.result in
     let found = c.in_ok-branch.ensures.found in
     let reads : ℕ → ReadsAbout = λ i t r. g.P.ProofFormat.reads (branch_question t r i) (IsAcceptedBranch i t r) in
-    let posed = posed_in g.P.ProofFormat.is_posed t r i c.in_ok-branch.branch c.deref.result.now checker found c.deref.ensures.value c.in_ok-checker.ensures in
+    let posed = posed_in g.P.ProofFormat.is_posed t r i c.in_ok-branch.branch c.deref.result.now checker found c.deref.ensures.value (g.met.P.ProofFormat.is_known _ checker c.in_ok-checker.ensures) in
     found_in reads i t r old i new (answered result) refl found.there
     (refused_so (reads i t r old new) OutOfMemory result c.from_residual-in_err-text.ensures
     (g.P.ProofFormat.is_read (branch_question t r i) checker (IsAcceptedBranch i t r) old new (Err OutOfMemory) posed
@@ -69,7 +69,7 @@ returns g c =
     let new = c.read_from.new.source in
     let found = c.in_ok-branch.ensures.found in
     let reads : ℕ → ReadsAbout = λ i t r. g.P.ProofFormat.reads (branch_question t r i) (IsAcceptedBranch i t r) in
-    let posed = posed_in g.P.ProofFormat.is_posed t r i c.in_ok-branch.branch c.deref.result.now checker found c.deref.ensures.value c.in_ok-checker.ensures in
+    let posed = posed_in g.P.ProofFormat.is_posed t r i c.in_ok-branch.branch c.deref.result.now checker found c.deref.ensures.value (g.met.P.ProofFormat.is_known _ checker c.in_ok-checker.ensures) in
     found_in reads i t r old i new _ refl found.there
     (g.P.ProofFormat.is_read (branch_question t r i) checker (IsAcceptedBranch i t r) old new _ posed
     (told (g.P.ProofFormat.is_accepted checker) (IsAcceptedBranch i t r) (g.P.ProofFormat.is_refused checker) old new c.into_bytes.result.items c.in_ok-read_from.ensures

@@ -15,8 +15,9 @@ returns-in_err-text g c =
     let checker = c.in_ok-checker.checker in
     let old = c.args.source.now in
     let new = c.read_from.new.source in
+    let posed = g.met.P.ProofFormat.is_known (question t r) checker c.in_ok-checker.ensures in
     refused_so (g.P.ProofFormat.reads (question t r) (IsAcceptedNone t r) old new) OutOfMemory c.from_residual-in_err-text.result c.from_residual-in_err-text.ensures
-    (g.P.ProofFormat.is_read (question t r) checker (IsAcceptedNone t r) old new (Err OutOfMemory) c.in_ok-checker.ensures
+    (g.P.ProofFormat.is_read (question t r) checker (IsAcceptedNone t r) old new (Err OutOfMemory) posed
     (untold (g.P.ProofFormat.is_accepted checker) (IsAcceptedNone t r) (g.P.ProofFormat.is_refused checker) old new c.in_ok-read_from.ensures))
 
 pub returns : goal.returns
@@ -26,9 +27,10 @@ returns g c =
     let checker = c.in_ok-checker.checker in
     let old = c.args.source.now in
     let new = c.read_from.new.source in
-    g.P.ProofFormat.is_read (question t r) checker (IsAcceptedNone t r) old new (Ok (tt, c.into_bytes.result.items)) c.in_ok-checker.ensures
+    let posed = g.met.P.ProofFormat.is_known (question t r) checker c.in_ok-checker.ensures in
+    g.P.ProofFormat.is_read (question t r) checker (IsAcceptedNone t r) old new (Ok (tt, c.into_bytes.result.items)) posed
     (told (g.P.ProofFormat.is_accepted checker) (IsAcceptedNone t r) (g.P.ProofFormat.is_refused checker) old new c.into_bytes.result.items c.in_ok-read_from.ensures
     (λ given accepted. (
-      (unsatisfiable_where t r c.requires.protocol.2.task).0 (g.met.P.ProofFormat.is_sound (question t r) checker given c.in_ok-checker.ensures accepted),
+      (unsatisfiable_where t r c.requires.protocol.2.task).0 (g.met.P.ProofFormat.is_sound (question t r) checker given posed accepted),
       ap (λ v. v.items) c.into_bytes.ensures.value ∙ c.in_ok-text.ensures ∙ ap (λ rounds. accepted_text (Some rounds) (none [])) c.rounds.ensures,
     )))
