@@ -114,11 +114,7 @@ impl HintProof {
     ///
     /// A fault is the first one: the steps before it are taken, and none behind it. Behind a fault
     /// nothing is said of where the text is read.
-    pub fn feed(
-        &mut self,
-        checker: &mut HintChecker,
-        piece: &[u8],
-    ) -> Result<(), HintFault>
+    pub fn feed(&mut self, checker: &mut HintChecker, piece: &[u8]) -> Result<(), HintFault>
         ensures kept { KeepsSatisfiable checker.old checker.new }
         ensures read { IfOk result (λ done. IsReadTo
             (outcome_of (text_of self.old piece.now) checker.old) self.new checker.new) }
@@ -201,11 +197,7 @@ impl HintProof {
     }
 
     /// The step at hand ends with this byte.
-    fn end_step(
-        &mut self,
-        checker: &mut HintChecker,
-        byte: u8,
-    ) -> Result<(), HintFault>
+    fn end_step(&mut self, checker: &mut HintChecker, byte: u8) -> Result<(), HintFault>
         requires { checker.old.is_refuted ≡ false }
         ensures kept { KeepsSatisfiable checker.old checker.new }
         ensures read { IfOk result (λ done. (bytes : List ℕ) → outcome_of
@@ -249,11 +241,7 @@ impl HintProof {
             (by_step (step_in Hints self.now) checker.old rest) fault checker.new) }
     {
         let line = self.reader.line();
-        match checker.derive(
-            self.reader.id(),
-            self.reader.clause(),
-            self.reader.hints(),
-        ) {
+        match checker.derive(self.reader.id(), self.reader.clause(), self.reader.hints()) {
             Ok(HintVerdict::Conflict) => Ok(()),
             Ok(HintVerdict::NoConflict) => Err(HintFault::NoConflict { line }),
             Ok(HintVerdict::UnknownHint) => Err(HintFault::UnknownHint { line }),
