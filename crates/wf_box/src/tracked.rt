@@ -1,6 +1,6 @@
 //! The candidates of each point, and what they were.
 
-ghost use Rattle.std.specs.Prelude.{◌≡◌, ◌-◌, ◌<◌, ◌≤◌, [], true, length, take, vec_capacity, IfOk};
+ghost use Rattle.std.specs.Prelude.{◌≡◌, ◌-◌, ◌<◌, ◌≤◌, [], true, length, take, vec_capacity, IfOk, IfSome};
 ghost use Rattle.wf_model.specs.Lists.{has};
 ghost use Rattle.wf_model.specs.Box.{candidates, count, decided, first_open};
 ghost use Rattle.wf_set.specs.Sets.{box_of, values_in};
@@ -132,6 +132,7 @@ impl Tracked {
         ensures kept { KeepsTrack self.new }
         ensures words { self.new.words.items ≡ self.old.words.items }
         ensures trail { self.new.trail.items ≡ self.old.trail.items }
+        ensures starts { IfSome result (λ point. self.new.open_from ≡ point) }
     {
         let found = self.first_open();
         if let Some(point) = found {
