@@ -102,8 +102,8 @@ pub(crate) trait Candidates: Copy {
             ≡ filter (λ v. not (has (values_in (get_or (at_places supported.now) place [])) v))
             (values_in (get_or (at_places self.now) place [])) };
 
-    /// Whether the first points of an execution have just these candidates. No may be the answer
-    /// also if points past them have others.
+    /// Whether the first points of an execution have just these candidates. The answer may be no
+    /// if only the points past them have others.
     fn are_left(self, execution: PackedExecution, sets: &[Mask], places: u8) -> bool
         requires count { places ≤ 4 }
         requires long { length execution.points ≡ 4 }
