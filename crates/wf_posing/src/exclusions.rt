@@ -24,7 +24,7 @@ use wf_task::Task;
 /// decision map of the task there. The clauses that rule out the other values come behind those of
 /// the whole question.
 ///
-/// Its memory grows with the number of clauses and their literals. Refused where memory runs out.
+/// Its memory grows with the number of clauses and their literals. Refused if memory runs out.
 pub fn pose_branch<C: ClauseTaker>(
     alloc: Global,
     task: &Task,

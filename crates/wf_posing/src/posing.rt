@@ -23,7 +23,7 @@ use wf_task::Task;
 /// and nothing else: a proof that refutes it shows that the task has no decision map there. The
 /// clauses come in the order in which [`Question`](wf_cnf::Question) writes them.
 ///
-/// Its memory grows with the number of clauses and their literals. Refused where memory runs out.
+/// Its memory grows with the number of clauses and their literals. Refused if memory runs out.
 pub fn pose<C: ClauseTaker>(
     alloc: Global,
     task: &Task,

@@ -13,12 +13,12 @@ pub trait ClauseTaker: Drop + Sized {
     // a checker knows this formula, and nothing else
     ghost is_posed: { Formula → Self → Type 0 };
 
-    /// A checker that knows no clause, on the variables from 1 to this number. Refused where memory
+    /// A checker that knows no clause, on the variables from 1 to this number. Refused if memory
     /// runs out.
     fn on_variables(alloc: Global, variables: u32) -> Result<Self, AllocError>
         ensures { IfOk result (is_posed (record { variables = variables; clauses = [] })) };
 
-    /// Adds a clause, behind those that are known. Refused where memory runs out.
+    /// Adds a clause, behind those that are known. Refused if memory runs out.
     fn take(&mut self, alloc: Global, clause: &[Literal]) -> Result<(), AllocError>
         ensures { IfOk result (λ done. Adds is_posed (clause.now ∷ []) self.old self.new) };
 }
