@@ -1,6 +1,5 @@
 -- Values and steps, read one after the other.
-use Rattle.std.proofs.Common.{◌≡◌, ◌<◌, ◌≤◌, ℕ, ◌+◌, ◌++◌, List, [], ◌∷◌, length, take, Option, Some, None, Vec, Result, Ok, Err, IsErr, IsErrAnd, refl, sym, ap, ◌∙◌, subst, arith, append_assoc, append-nil, length-append, length-take}
-use Rattle.std.proofs.lemmas.List.{take-append-le, take_all}
+use Rattle.std.proofs.Common.{◌≡◌, ℕ, ◌+◌, ◌++◌, List, [], ◌∷◌, length, take, Option, Some, None, Vec, Result, Ok, Err, IsErr, IsErrAnd, refl, sym, ap, ◌∙◌, subst, append_assoc, append-nil}
 use Rattle.wf_model.specs.Problem.{Problem}
 use Rattle.wf_model.specs.Refutation.{Line}
 use Rattle.wf_model.specs.Report as reports
@@ -53,20 +52,6 @@ module _ (a b c : Reading) (w w1 w2 : Ahead) (done : List ℕ) (before : HasValu
       let one = λ (values : List ℕ). next (done ++ values) in
       reads_as (values_then next) (next (done ++ [])) (next done) x a c w w2 (ap next (append-nil done))
       (then_reads (values_then next) (λ (x : Unit {0}). values_then one) (λ (x : X). next (done ++ [])) a b c w w1 w2 (tt {0}) (Ok x) (before.reads next) (read one))
-
--- one more is kept, or none
-pub kept_more : (most v : ℕ) (kept done : List ℕ) → kept ≡ take most done → length kept < most → kept ++ v ∷ [] ≡ take most (done ++ v ∷ [])
-kept_more most v kept done is few =
-    let size = ap length is in
-    let cut = length-take most done in
-    let all = length-append done (v ∷ []) in
-    ap (λ vs. vs ++ v ∷ []) (is ∙ take_all most done (omega (arith, size, cut, few))) ∙ sym (take_all most (done ++ v ∷ []) (omega (arith, size, cut, all, few)))
-
-pub kept_same : (most v : ℕ) (kept done : List ℕ) → kept ≡ take most done → most ≤ length kept → kept ≡ take most (done ++ v ∷ [])
-kept_same most v kept done is many =
-    let size = ap length is in
-    let cut = length-take most done in
-    is ∙ sym (take-append-le most done (v ∷ []) (omega (arith, size, cut, many)))
 
 -- ---- steps
 
