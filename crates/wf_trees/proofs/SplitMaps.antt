@@ -1,6 +1,8 @@
 -- A decision map of a task gives one of the task with names in place of values: at a view on the
 -- simplex it decides the name that the tuple of an execution with this view has there.
 use Rattle.std.proofs.Common.{◌≡◌, ℕ, ◌==◌, ◌&&◌, ◌||◌, not, ◌<◌, Bool, true, false, cond, List, [], ◌∷◌, map, filter, flat_map, fold, length, get_or, Contains, inl, inr, refl, sym, ap, ◌∙◌, subst, arith, ext_get_or}
+use Rattle.std.specs.Ordering.{nat_cmp}
+use Rattle.std.specs.FinMap.{nat_cmp-IsAntisymmetric}
 use Rattle.std.proofs.lemmas.Bool.{and_from, and_parts, cases_eq, eq-eqb, eqb-true, ne_eqb, or_cases, or_left, or_right}
 use Rattle.std.proofs.lemmas.List.{length-map}
 use Rattle.std.proofs.lemmas.List.Elements.{recursion_from_All, All-from_recursion}
@@ -17,7 +19,7 @@ use Rattle.wf_counting.proofs.Sums.{keep_map}
 use Rattle.wf_trees.specs.Stars.{DifferAtOne, runs, view_after}
 use Rattle.wf_trees.specs.Tuples.{agree_elsewhere, choices_of, is_kept, is_part, mask_of, value_at}
 use Rattle.wf_trees.specs.Splits.{IsSplitting, Splitting, by_stars, choices, hang_together, names_at, names_of, split, stars, tuples_on_face, tuples_split, with_names}
-use Rattle.wf_trees.proofs.Members.{Has, any_has, contained_has, contains, filter_has, flat_has, from_each, has_any, map_has, of_has, passes_each}
+use Rattle.wf_trees.proofs.Members.{Has, any_has, contained_has, contains, filter_has, flat_has, from_each, has_any, in_order_has, map_has, of_has, passes_each}
 use Rattle.wf_trees.proofs.Inputs.{Setting}
 use Rattle.wf_trees.proofs.Maps.{decides_allowed, own_class}
 use Rattle.wf_trees.proofs.PartsJoin.{in_the_same, one_name_beside, there_has}
@@ -148,10 +150,11 @@ module _ (t : Task) (s : Splitting) (r : ℕ) (set : Setting t s.rule) (is : IsS
 
   choice : (v : View) → Has (named v) (choices s (process_of v) (m v))
   choice v =
-      elim (By.picked_is s.rule.input r name_at m v) [
+      in_order_has nat_cmp nat_cmp-IsAntisymmetric (named v) (m v ∷ flat_map (names_at s (process_of v) (m v)) (below n))
+      (elim (By.picked_is s.rule.input r name_at m v) [
         | inl own ↦ inl (sym own)
         | inr found ↦ inr (subst (λ x. Has x (flat_map (names_at s (process_of v) (m v)) (below n))) (sym found.5) (from found.0 found.1 found.2 found.3 found.4))
-      ]
+      ])
     where
       from : (ws : List Word) (i : ℕ) → IsRun ws → i < n → at (views ws) i ≡ v → Has (name_at ws i) (flat_map (names_at s (process_of v) (m v)) (below n))
       from ws i run low same =

@@ -126,7 +126,7 @@ pub hourglass_in_halves : tuples_of (split halves (hourglass 1))
 hourglass_in_halves = refl
 
 -- on a simplex that is no face any name may stand for the value
-pub any_name : choices_of (choices halves) (0 ∷ 1 ∷ []) (1 ∷ 1 ∷ []) ≡ (1 ∷ 1 ∷ []) ∷ (1 ∷ 1 ∷ []) ∷ (1 ∷ 1 ∷ []) ∷ (1 ∷ 1 ∷ []) ∷ (3 ∷ 1 ∷ []) ∷ (3 ∷ 1 ∷ []) ∷ []
+pub any_name : choices_of (choices halves) (0 ∷ 1 ∷ []) (1 ∷ 1 ∷ []) ≡ (1 ∷ 1 ∷ []) ∷ (3 ∷ 1 ∷ []) ∷ []
 any_name = refl
 
 -- processes 0 and 2 are a face of three; with another input they are none

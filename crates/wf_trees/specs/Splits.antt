@@ -7,7 +7,8 @@
 -- point of the output complex, its parts become vertices of their own.
 use Rattle.std.specs.Prelude.{◌≡◌, ◌<◌, ◌==◌, ◌&&◌, not, ℕ, suc, Bool, true, List, [], ◌∷◌, Contains, filter, flat_map, length, map, slice_index_or, if◌then◌else◌}
 use Rattle.std.specs.List.{list_any}
-use Rattle.wf_model.specs.Lists.{below, has}
+use Rattle.std.specs.Ordering.{nat_cmp}
+use Rattle.wf_model.specs.Lists.{below, has, in_order}
 use Rattle.wf_model.specs.Simplex.{processes_of}
 use Rattle.wf_model.specs.Task.{Rule, Task, Tuple}
 use Rattle.wf_counting.specs.Signs.{keep}
@@ -50,9 +51,9 @@ names_at s process value place =
     then map (s.name place) (filter (λ tuple. value_at tuple place == value) s.rule.tuples)
     else []
 
--- what a process may decide in place of a value: the value, or any name of it
+-- what a process may decide in place of a value: the value, or any name of it, each once
 abbrev pub choices : Splitting → ℕ → ℕ → List ℕ
-choices s process value = value ∷ flat_map (names_at s process value) (below (length s.rule.input))
+choices s process value = in_order nat_cmp (value ∷ flat_map (names_at s process value) (below (length s.rule.input)))
 
 -- ---- the task
 
