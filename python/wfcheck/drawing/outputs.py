@@ -1,0 +1,119 @@
+"""The scene of a task's output complex: a graph of what processes may decide, with the tuples lit that some inputs allow."""
+from typing import Dict, List, Optional, Sequence, Tuple
+
+from ..tasks import Simplex, Task, simplices
+from .graphs import Vertex, XY, by_distances, disc, graph, lowest, neighbours
+from .scene import MARGIN, MOST_RADIUS, Cell, Scene, Spot, TooLarge, counted, nearest
+from .subdivision import Rules, rules_of
+
+MOST_VERTICES, SIDE, GAP = 120, 150.0, 1.0
+WIDEST = 1000.0
+
+
+def allowed_simplices(rules: Rules, simplex: Simplex) -> List[Simplex]:
+    """The tuples that an input simplex allows, as output simplices."""
+    return [tuple((p, value) for (p, _), value in zip(simplex, each)) for each in rules.allowed[simplex]]
+
+
+def outputs_of(rules: Rules) -> List[Simplex]:
+    """The output simplices that some inputs allow, and their faces."""
+    return simplices([each for it in rules.simplices for each in allowed_simplices(rules, it)])
+
+
+def parts(listed: Sequence[Simplex]) -> List[List[Simplex]]:
+    """Simplices by the connected parts of their complex, in order."""
+    found: List[List[Simplex]] = []
+    for it in listed:
+        met = [part for part in found if any(set(it) & set(other) for other in part)]
+        found = [part for part in found if part not in met] + [[other for part in met for other in part] + [it]]
+    return found
+
+
+def places_of(listed: Sequence[Simplex]) -> Dict[Vertex, XY]:
+    """Places for all vertices of a complex: its connected parts stand side by side."""
+    found: Dict[Vertex, XY] = {}
+    left = 0.0
+    for part in parts(listed):
+        facets = [it for it in part if not any(set(it) < set(other) for other in part)]
+        flat = disc(facets) if len(facets) > 1 else None
+        edges = all(len(it) <= 2 for it in part)
+        places = flat or (graph(part) if edges else lowest(by_distances(neighbours(part))))
+        found.update({it: (x + left, y) for it, (x, y) in places.items()})
+        left = max(x for x, _ in found.values()) + GAP
+    return found
+
+
+def pinched(tuples: Sequence[Simplex]) -> List[Vertex]:
+    """The vertices about which triangles fall apart: no walk over edges at the vertex joins them all."""
+    found = []
+    for vertex in sorted({it for each in tuples for it in each}):
+        links = [tuple(it for it in each if it != vertex) for each in tuples if vertex in each and len(each) == 3]
+        if len(parts(links)) > 1:
+            found.append(vertex)
+    return found
+
+
+def simplex_text(simplex: Simplex) -> str:
+    """An input simplex in words."""
+    return "{" + ", ".join(f"p{p}={value}" for p, value in simplex) + "}"
+
+
+def tuple_text(simplex: Simplex) -> str:
+    """An output simplex in words."""
+    return ", ".join(f"p{p} decides {value}" for p, value in simplex)
+
+
+def chosen_simplex(rules: Rules, inputs: Optional[Simplex]) -> Simplex:
+    """The input simplex that is asked for, or the first facet."""
+    if inputs is None:
+        return rules.facets[0]
+    wanted = tuple(sorted(inputs))
+    if wanted not in rules.simplices:
+        raise TooLarge(f"{simplex_text(wanted)} is no input simplex of the task")
+    return wanted
+
+
+def of_outputs(task: Task, inputs: Optional[Simplex]) -> Scene:
+    """The output complex, with the tuples lit that are allowed for an input simplex. Raises TooLarge."""
+    rules = rules_of(task)
+    if rules.processes > 3:
+        raise TooLarge("the outputs of four processes are not drawn")
+    simplex, listed = chosen_simplex(rules, inputs), outputs_of(rules)
+    vertices = [it[0] for it in listed if len(it) == 1]
+    if not vertices or len(vertices) > MOST_VERTICES:
+        raise TooLarge(f"the output complex has {counted(len(vertices), 'vertex').replace('vertexs', 'vertices')}: "
+                       f"from 1 to {MOST_VERTICES} are drawn")
+    scene = Scene(f"{task.name}: the output complex", palette=rules.values, processes=sorted({p for p, _ in vertices}), values=rules.values)
+    set_places(scene, listed, vertices)
+    lit = set(allowed_simplices(rules, simplex))
+    for cell, it in zip(scene.cells, listed):
+        cell.marks = {"lit"} if it in lit else set()
+        cell.title = tuple_text(it) + (f": allowed for {simplex_text(simplex)}" if it in lit else "")
+    scene.about = f"Lit: the {counted(len(lit), 'tuple')} that {simplex_text(simplex)} allows." if lit else \
+        f"{simplex_text(simplex)} allows nothing."
+    for vertex in pinched(sorted(lit)):
+        scene.spots[vertices.index(vertex)].marks = {"empty"}
+        scene.lines.append(f"p{vertex[0]} = {vertex[1]} is a pinch point: about it the lit triangles fall apart.")
+    return scene
+
+
+def set_places(scene: Scene, listed: Sequence[Simplex], vertices: Sequence[Vertex]) -> None:
+    """Gives a scene the vertices and simplices of an output complex at their places."""
+    places = places_of(listed)
+    wide = max(x for x, _ in places.values())
+    scale = min(SIDE * (1.6 if len(vertices) <= 12 else 1.0), WIDEST / max(wide, 1.0))
+    low = max(y for _, y in places.values()) * scale
+    at: Dict[Vertex, Tuple[float, float]] = {it: (x * scale + MARGIN, low - y * scale + MARGIN / 2) for it, (x, y) in places.items()}
+    scene.spots = [Spot(-1, number, it[0], at[it], tuple_text((it,)), value=it[1]) for number, it in enumerate(vertices)]
+    scene.radius = min(MOST_RADIUS, 0.3 * nearest([*at.values()])) if len(at) > 1 else MOST_RADIUS
+    middle = sum(x for x, _ in at.values()) / len(at), sum(y for _, y in at.values()) / len(at)
+    scene.cells = [Cell(number, tuple(map(vertices.index, it)), tuple_text(it), middle=middle, marks=set()) for number, it in enumerate(listed)]
+    scene.size = wide * scale + 2 * MARGIN, low + MARGIN
+
+
+def lit_by(rules: Rules, simplex: Simplex) -> List[int]:
+    """The numbers of the output simplices that an input simplex allows."""
+    numbers = {it: number for number, it in enumerate(outputs_of(rules))}
+    return [numbers[it] for it in allowed_simplices(rules, simplex)]
+
+
