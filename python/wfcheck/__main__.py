@@ -1,5 +1,5 @@
 """`python3 -m wfcheck ask TASK ROUNDS ..` is what tools/ask is. `python3 -m wfcheck restrict --processes 0,2 < TASK` writes the task of some
-processes alone."""
+processes alone. `python3 -m wfcheck draw TASK [REPORT]` draws."""
 import argparse
 import pathlib
 import sys
@@ -7,13 +7,17 @@ from typing import List
 
 UNDECIDED, REFUSED = 3, 2
 FOLDER = pathlib.Path(__file__).resolve().parent.parent
-USAGE = "usage: python3 -m wfcheck ask TASK ROUNDS [options]\n       python3 -m wfcheck restrict --processes P,.. < TASK"
+USAGE = "usage: python3 -m wfcheck ask TASK ROUNDS [options]\n       python3 -m wfcheck restrict --processes P,.. < TASK\n" \
+    "       python3 -m wfcheck draw TASK [REPORT] [options]"
 
 
 def main(words: List[str]) -> int:
     """Does what the words say, and returns the status."""
     if words[:1] == ["restrict"]:
         return restricted(words[1:])
+    if words[:1] == ["draw"]:
+        from .drawing.main import main as draw
+        return draw(words[1:])
     if words[:1] != ["ask"]:
         print(USAGE, file=sys.stdout if words[:1] == ["--help"] else sys.stderr)
         return 0 if words[:1] == ["--help"] else REFUSED

@@ -89,7 +89,7 @@ def of_outputs(task: Task, inputs: Optional[Simplex]) -> Scene:
     for cell, it in zip(scene.cells, listed):
         cell.marks = {"lit"} if it in lit else set()
         cell.title = tuple_text(it) + (f": allowed for {simplex_text(simplex)}" if it in lit else "")
-    scene.about = f"Lit: the {counted(len(lit), 'tuple')} that {simplex_text(simplex)} allows." if lit else \
+    scene.about = f"Lit: what {simplex_text(simplex)} allows, {counted(len(lit), 'tuple')}." if lit else \
         f"{simplex_text(simplex)} allows nothing."
     for vertex in pinched(sorted(lit)):
         scene.spots[vertices.index(vertex)].marks = {"empty"}

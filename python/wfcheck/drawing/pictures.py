@@ -134,6 +134,7 @@ def of_refutation(task: Task, rounds: int, argument: Argument, choice: Choice) -
         elif spot.point not in used:
             spot.marks = {"dim"}
     scene.values = sorted({it.value for it in scene.spots if it.value is not None})
+    scene.values_are = "forced value" if len(scene.values) == 1 else "forced values"
     scene.lines.append("A number on an execution is that of a step. × is a point without a value left.")
     return scene
 
@@ -158,7 +159,7 @@ def numbers_text(numbers: Sequence[int]) -> str:
 def of_obstruction(task: Task, rounds: int, weights: Weights, seed: int, any_value: bool, choice: Choice) -> Scene:
     """An obstruction, counted on a choice of values after some rounds."""
     part = part_of(task, rounds, choice, counts=True)
-    scene = part.scene("no decision map after any number of rounds", f"Values by chance after {counted(rounds, 'round')}, seed {seed}.")
+    scene = part.scene("no decision map after any number of rounds", f"Values by chance after {counted(rounds, 'round')} (seed {seed}).")
     values = drawn_values(choices(part.made, any_value), seed)
     found = count(part.made, weights, values)
     for spot in scene.spots:
@@ -170,6 +171,6 @@ def of_obstruction(task: Task, rounds: int, weights: Weights, seed: int, any_val
         if it:
             cell.marks |= {"lit", "plus" if it.sign > 0 else "minus"}
             cell.label = f"{'+' if it.sign > 0 else '−'}{it.weight}"
-    scene.lines.append(f"{counted(len(found), 'execution')} with a tuple of the obstruction: {count_text(found, weights.modulus)}.")
+    scene.count = count_text(found, weights.modulus)
     scene.lines.append("Whatever the points decide, the count stays. A decision map would have 0.")
     return scene

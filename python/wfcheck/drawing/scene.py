@@ -57,7 +57,7 @@ class Note:
 
 @dataclasses.dataclass
 class Scene:
-    """A picture: y grows downwards. `values` are those that the legend has, `key` has the rest of the legend."""
+    """A picture: y grows downwards. `values` are those that the legend has, `count` is what an obstruction counts."""
     heading: str
     about: str = ""
     lines: List[str] = dataclasses.field(default_factory=list)
@@ -67,10 +67,10 @@ class Scene:
     processes: List[int] = dataclasses.field(default_factory=list)
     values: List[int] = dataclasses.field(default_factory=list)
     palette: List[int] = dataclasses.field(default_factory=list)
-    key: List[Tuple[str, str]] = dataclasses.field(default_factory=list)
     size: XY = (0.0, 0.0)
     radius: float = MOST_RADIUS
-    is_symmetric: bool = False
+    count: str = ""
+    values_are: str = "decided values"
 
     @property
     def is_readable(self) -> bool:
@@ -96,7 +96,7 @@ def chosen_facets(rules: Rules, wanted: Iterable[Simplex]) -> List[Simplex]:
 def drawn(made: Complex, facets: Sequence[Simplex], heading: str, inside: bool = True) -> Scene:
     """The scene of a complex over some facets, or of their faces of at most two processes alone."""
     found = layout(facets)
-    scene = Scene(heading, processes=sorted({p for it in facets for p, _ in it}), is_symmetric=made.rules.symmetric,
+    scene = Scene(heading, processes=sorted({p for it in facets for p, _ in it}),
                   palette=made.rules.values)
     scale = scale_of(made, found)
     spots: Dict[Tuple[int, int, int], int] = {}
@@ -104,7 +104,8 @@ def drawn(made: Complex, facets: Sequence[Simplex], heading: str, inside: bool =
     by_simplex: Dict[Simplex, List[int]] = {}
     for number, execution in enumerate(made.executions):
         by_simplex.setdefault(execution.simplex, []).append(number)
-    parts, seen, titles = shares(made), set(), {}
+    parts, titles = shares(made), [f"v{made.points[it]}: {made.view_text(it)}" if it in made.points else "" for it in range(len(made.views))]
+    seen: Set[int] = set()
     for patch in found.patches:
         for face in [it for it in faces(patch.simplex) if inside or len(it) < 3]:
             for number in by_simplex[face]:
@@ -114,8 +115,7 @@ def drawn(made: Complex, facets: Sequence[Simplex], heading: str, inside: bool =
                     key = view, round(x / TINY), round(y / TINY)
                     if key not in spots:
                         spots[key] = len(scene.spots)
-                        title = titles.setdefault(view, f"v{made.points[view]}: {made.view_text(view)}")
-                        scene.spots.append(Spot(view, made.points[view], made.views[view].process, (x * scale, -y * scale), title))
+                        scene.spots.append(Spot(view, made.points[view], made.views[view].process, (x * scale, -y * scale), titles[view]))
                     ends.append(spots[key])
                 if (number, *ends) not in cells:
                     cells[(number, *ends)] = None
@@ -155,8 +155,10 @@ def finish(made: Complex, scene: Scene, found: Layout, scale: float) -> None:
     every = [it.at for it in scene.spots] + [it.at for it in scene.notes]
     left, top = min(x for x, _ in every) - MARGIN, min(y for _, y in every) - MARGIN / 2
     scene.size = max(x for x, _ in every) - left + MARGIN, max(y for _, y in every) - top + MARGIN / 2
-    for it in [*scene.spots, *scene.notes]:
-        it.at = it.at[0] - left, it.at[1] - top
+    for spot in scene.spots:
+        spot.at = spot.at[0] - left, spot.at[1] - top
+    for note in scene.notes:
+        note.at = note.at[0] - left, note.at[1] - top
     for cell in scene.cells:
         cell.middle = cell.middle[0] - left, cell.middle[1] - top
 

@@ -4,7 +4,7 @@ import itertools
 import json
 from typing import Any, Dict, FrozenSet, Iterable, List, NamedTuple, Optional, Sequence, Tuple
 
-from ..tasks import Simplex, Task, simplices
+from ..tasks import Simplex, Task
 
 # the number of the block of each participant
 Word = Tuple[int, ...]
@@ -49,11 +49,16 @@ class Rules(NamedTuple):
 def rules_of(task: Task) -> Rules:
     """What the text of a task says. The text has to be that of a task, as the program accepts it."""
     whole: Dict[str, Any] = json.loads(task.text)
-    listed = simplices([tuple(map(tuple, each)) for each in whole["inputs"]])
+    listed = task.simplices()
     facets = [it for it in listed if not any(set(it) < set(other) for other in listed)]
-    allowed = {tuple(map(tuple, it["in"])): sorted({tuple(each) for each in it["out"]}) for it in whole["delta"]}
+    allowed = {simplex_of(it["in"]): sorted({tuple(each) for each in it["out"]}) for it in whole["delta"]}
     values = sorted({value for each in whole["outputs"] for _, value in each})
     return Rules(whole["processes"], whole["symmetric"], whole.get("first_block", 1), listed, facets, allowed, values)
+
+
+def simplex_of(listed: Sequence[Sequence[int]]) -> Simplex:
+    """The simplex that a list of a task file is."""
+    return tuple((p, value) for p, value in listed)
 
 
 class Complex:

@@ -1,8 +1,9 @@
 """A scene as SVG: the same bytes each time, text as text, and a title at each point and execution."""
-from typing import List, Tuple
+import math
+from typing import List, Sequence, Tuple
 from xml.sax.saxutils import escape, quoteattr
 
-from .graphs import XY
+from .graphs import XY, area
 from .palette import SHADES, colour, ink, outline, short, tint
 from .scene import Cell, Note, Scene, Spot
 
@@ -14,20 +15,20 @@ STYLE = """
 .wf .spot{stroke:#1b1f24}.wf .dim .spot{stroke:#9aa2ab}.wf .empty .spot{stroke:#6d2a86;stroke-width:4.5}.wf .ring{fill:none;stroke:#6d2a86;stroke-width:2.4}.wf .ring.cited{fill:none}
 .wf .badge{fill:#fff;stroke:#6d2a86;stroke-width:1.2}.wf .badge.plus{fill:#1b1f24;stroke:#1b1f24}.wf .number.plus{fill:#fff}
 .wf .heading{font-size:17px;font-weight:bold;text-anchor:start}.wf .about,.wf .key,.wf .line{font-size:13px;text-anchor:start;fill:#3d444d}
-.wf .corner{font-size:13px;font-style:italic}.wf .face{font-size:12px;font-style:italic;fill:#57606a}.wf .number{font-weight:bold}
+.wf .count{font-size:16px;font-weight:bold;text-anchor:start}.wf .corner{font-size:13px;font-style:italic}.wf .face{font-size:12px;font-style:italic;fill:#57606a}.wf .number{font-weight:bold}
 """.replace("\n", "")
 TOP, ROW, PAD = 64.0, 21.0, 24.0
-LEAST_WIDTH = 430.0
+LEAST_WIDTH, LEAST_LABEL = 430.0, 5.5
 
 
-def svg(scene: Scene) -> str:
-    """The scene as the text of an SVG file."""
+def svg(scene: Scene, live: bool = False) -> str:
+    """The scene as the text of an SVG file. A live one also has what a script may show."""
     legend, bottom = legend_of(scene)
     width = max(scene.size[0], LEAST_WIDTH, *(text_width(it) + 2 * PAD for it in [scene.heading + "   ", scene.about, *scene.lines]))
     height = TOP + scene.size[1] + bottom
     left = (width - scene.size[0]) / 2
     view = f"0 0 {short(width)} {short(height)}"
-    told = " ".join(filter(None, [scene.about, *scene.lines]))
+    told = " ".join(filter(None, [scene.about, scene.count, *scene.lines]))
     parts = [
         f'<svg xmlns="http://www.w3.org/2000/svg" class="wf" viewBox="{view}" width="{short(width)}" height="{short(height)}" role="img" '
         f'aria-label={quoteattr(f"{scene.heading}. {told}")}>',
@@ -36,7 +37,7 @@ def svg(scene: Scene) -> str:
         f'<text class="heading" x="{short(PAD)}" y="32">{escape(scene.heading)}</text>',
         f'<text class="about" x="{short(PAD)}" y="53">{escape(scene.about)}</text>',
         f'<g transform="translate({short(left)} {short(TOP)})">',
-        *drawing(scene),
+        *drawing(scene, live),
         "</g>",
         f'<g transform="translate({short(PAD)} {short(TOP + scene.size[1])})">', *legend, "</g>", "</svg>", "",
     ]
@@ -48,14 +49,14 @@ def text_width(text: str) -> float:
     return 6.5 * len(text)
 
 
-def drawing(scene: Scene) -> List[str]:
+def drawing(scene: Scene, live: bool) -> List[str]:
     """The cells by size, marked ones above the others, then the spots, and the labels above all."""
     thin = 1.1 if scene.radius > 9 else 0.9 if scene.radius > 5 else 0.45
     order = sorted(scene.cells, key=lambda it: (len(it.spots) < 3, bool(it.marks & {"lit"})))
     parts = [f'<g stroke-width="{thin}">', *(cell(it, scene) for it in order if len(it.spots) > 1), "</g>"]
-    parts += [f'<g stroke-width="{1.1 if scene.radius > 5 else 0.5}">', *(spot(it, scene) for it in scene.spots), "</g>"]
-    parts += [ring(it, scene) for it in order if len(it.spots) == 1]
-    parts += [label(it, scene) for it in scene.cells if it.label or "open" in it.marks]
+    parts += [f'<g stroke-width="{1.1 if scene.radius > 5 else 0.5}">', *(spot(it, scene, live) for it in scene.spots), "</g>"]
+    parts += [ring(it, scene) for it in order if len(it.spots) == 1 and (it.marks or live)]
+    parts += [label(it, scene) for it in scene.cells if it.label or live]
     return parts + [note(it) for it in scene.notes]
 
 
@@ -79,26 +80,26 @@ def cell(it: Cell, scene: Scene) -> str:
 
 def ring(it: Cell, scene: Scene) -> str:
     """An execution of one process: a ring about its point, which shows if the execution is marked."""
-    if not it.marks:
-        return ""
     (x, y), = (scene.spots[at].at for at in it.spots)
     return f'<circle {marks_of("ring", [*it.marks])} data-e="{it.execution}" cx="{short(x)}" cy="{short(y)}" r="{short(scene.radius * 1.6)}"/>'
 
 
-def spot(it: Spot, scene: Scene) -> str:
+def spot(it: Spot, scene: Scene, live: bool) -> str:
     """A point: the shape and shade of its process, in it the colour and number of its value if it has one, else its label."""
     shade = SHADES[it.process]
     radius = scene.radius * (1.15 if it.value is not None else 1.0)
     name, where = outline(shade.shape, *it.at, radius)
     fill, text = tint(shade.fill, 0.4) if "dim" in it.marks else shade.fill, it.label
-    parts = [f'<g {marks_of("at", [*it.marks])} data-v="{it.point}"><title>{escape(it.title)}</title>',
+    inks = f' data-ink="{ink(fill)}"' if live else ""
+    parts = [f'<g {marks_of("at", [*it.marks])} data-v="{it.point}"{inks}><title>{escape(it.title)}</title>',
              f'<{name} class="spot" fill="{fill}" {where}/>']
-    if it.value is not None:
-        fill = colour(it.value, scene.palette)
+    if it.value is not None or live:
+        hidden = ' style="display:none"' if it.value is None else ""
+        fill = fill if it.value is None else colour(it.value, scene.palette)
         name, where = outline(shade.shape, *it.at, radius * 0.74)
-        parts.append(f'<{name} class="value" fill="{fill}" {where}/>')
-        text = it.label or str(it.value)
-    if text and scene.is_readable:
+        parts.append(f'<{name} class="value" fill="{fill}" {where}{hidden}/>')
+        text = it.label or ("" if it.value is None else str(it.value))
+    if (text or live) and scene.is_readable:
         parts.append(inside(it, text, radius, ink(fill)))
     return "".join(parts) + "</g>"
 
@@ -113,9 +114,9 @@ def inside(it: Spot, text: str, radius: float, fill: str) -> str:
 def label_place(it: Cell, scene: Scene) -> XY:
     """Where the label of a cell stands: in a triangle, beside an edge or a point."""
     places = [scene.spots[at].at for at in it.spots]
-    x, y = sum(a for a, _ in places) / len(places), sum(b for _, b in places) / len(places)
     if len(places) == 3:
-        return x, y
+        return inner_circle(places)[0]
+    x, y = sum(a for a, _ in places) / len(places), sum(b for _, b in places) / len(places)
     if len(places) == 1:
         far = scene.radius * 0.8 + 18
         return (x - far, y - far * 0.55) if x < it.middle[0] else (x + far, y - far * 0.55)
@@ -129,13 +130,24 @@ def label_place(it: Cell, scene: Scene) -> XY:
     return x + side * across[0] / length * far, y + side * across[1] / length * far
 
 
+def inner_circle(corners: Sequence[XY]) -> Tuple[XY, float]:
+    """The middle and the radius of the largest circle in a triangle."""
+    sides = [math.dist(corners[1], corners[2]), math.dist(corners[0], corners[2]), math.dist(corners[0], corners[1])]
+    around = sum(sides)
+    x, y = (sum(side * corner[at] for side, corner in zip(sides, corners)) / around for at in (0, 1))
+    return (x, y), 2 * abs(area(corners)) / around
+
+
 def label(it: Cell, scene: Scene) -> str:
     """The label of a cell, on a badge."""
     x, y = label_place(it, scene)
     size = 11.0 if scene.radius > 6 else 9.0
+    if len(it.spots) == 3:
+        size = max(LEAST_LABEL, min(size, inner_circle([scene.spots[at].at for at in it.spots])[1] * 0.75))
     wide = max(size * 1.55, size * (0.62 * len(it.label) + 0.7))
     sign = [mark for mark in it.marks if mark in ("plus", "minus")]
-    return (f'<g class="mark" data-e="{it.execution}"><rect {marks_of("badge", sign)} x="{short(x - wide / 2)}" y="{short(y - size * 0.78)}" '
+    hidden = "" if it.label else ' hidden=""'
+    return (f'<g class="mark" data-e="{it.execution}"{hidden}><rect {marks_of("badge", sign)} x="{short(x - wide / 2)}" y="{short(y - size * 0.78)}" '
             f'width="{short(wide)}" height="{short(size * 1.56)}" rx="{short(size * 0.78)}"/><text {marks_of("number", sign)} x="{short(x)}" '
             f'y="{short(y + size * 0.36)}" font-size="{short(size)}">{escape(it.label)}</text></g>')
 
@@ -159,7 +171,10 @@ def legend_of(scene: Scene) -> Tuple[List[str], float]:
             parts.append(f'<rect class="spot" x="{short(x + 1)}" y="{short(y - 7)}" width="14" height="14" rx="2" fill="{colour(value, scene.palette)}"/>'
                          f'<text class="key" x="{short(x + 22)}" y="{short(y + 4.5)}">{value}</text>')
             x += 32 + 9 * len(str(value))
-        parts.append(f'<text class="key" x="{short(x + 4)}" y="{short(y + 4.5)}">decided values</text>')
+        parts.append(f'<text class="key" x="{short(x + 4)}" y="{short(y + 4.5)}">{scene.values_are}</text>')
+    if scene.count:
+        y += ROW + 6
+        parts.append(f'<text class="count" x="0" y="{short(y + 4.5)}">{escape(scene.count)}</text>')
     for line in scene.lines:
         y += ROW
         parts.append(f'<text class="line" x="0" y="{short(y + 4.5)}">{escape(line)}</text>')

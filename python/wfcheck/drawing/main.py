@@ -1,0 +1,164 @@
+"""`python3 -m wfcheck draw TASK [REPORT]`: pictures of what the program accepts, as SVG or as an HTML page."""
+import argparse
+import os
+import pathlib
+import sys
+import tempfile
+from typing import Callable, List, NamedTuple, Optional
+
+from ..answers import FIRST, OBSTRUCTION, body, report_of
+from ..questions import explain, verify
+from ..running import Error, Refused, run
+from ..tasks import Simplex, Task, read
+from ..views import Unreadable
+from . import page, pictures
+from .argument import argument_of
+from .counting import weighted
+from .outputs import chosen_simplex, of_outputs
+from .pictures import Choice
+from .scene import Scene, TooLarge
+from .subdivision import rules_of
+from .svg import svg
+
+REFUSED = 2
+ABOUT = """Draws a task's complex after some rounds, and what a report or an obstruction says of it. `wfcheck verify` is asked first: what it
+refuses is not drawn. Nothing is proved of a picture."""
+
+
+class Picture(NamedTuple):
+    """A picture: its scene, and what stands beside it on a page."""
+    scene: Scene
+    side: Callable[[], page.Side]
+
+
+class Stopped(Exception):
+    """What can't be drawn, in a line."""
+
+
+def inputs(text: str) -> Simplex:
+    """The input simplex that a text such as p0=0,p2=1 is."""
+    pairs = [it.strip().split("=") for it in text.split(",")]
+    if not all(len(it) == 2 and it[0][:1] == "p" and it[0][1:].isdigit() and it[1].isdigit() for it in pairs):
+        raise argparse.ArgumentTypeError(f"{text!r} is not like p0=0,p1=1")
+    return tuple(sorted((int(process[1:]), int(value)) for process, value in pairs))
+
+
+def number(text: str) -> int:
+    """A whole number from 0 on."""
+    if not text.isdigit():
+        raise argparse.ArgumentTypeError(f"{text!r} is no whole number from 0 on")
+    return int(text)
+
+
+def words() -> argparse.ArgumentParser:
+    """The command line."""
+    found = argparse.ArgumentParser(prog="wfcheck draw", description=ABOUT, allow_abbrev=False)
+    found.add_argument("task", metavar="TASK", help="the file of a task")
+    found.add_argument("report", metavar="REPORT", nargs="?", help="a report or an obstruction that `wfcheck` wrote")
+    found.add_argument("--rounds", type=number, metavar="R", help="rounds of the complex; with a report it has to be about as many")
+    found.add_argument("--outputs", action="store_true", help="draw the output complex, and light what --input allows")
+    found.add_argument("--input", type=inputs, metavar="p0=0,..", help="draw the input facets with these inputs alone")
+    found.add_argument("--all", action="store_true", help="of a refutation draw all input facets, not only those that it needs")
+    found.add_argument("--faces", action="store_true", help="draw executions of at most two processes alone")
+    found.add_argument("--seed", type=number, default=1, metavar="N", help="of an obstruction: which values the points have by chance")
+    found.add_argument("--any", action="store_true", help="of an obstruction: also values that the inputs forbid")
+    found.add_argument("--html", action="store_true", help="write an HTML page in place of SVG")
+    found.add_argument("--output", metavar="FILE", help="the file to write; else standard output")
+    return found
+
+
+def accepted(task: Task, text: str, rounds: Optional[int], name: str) -> None:
+    """Asks `verify` about a text. Raises Stopped with its words if it refuses the text."""
+    try:
+        verify(task, text, rounds)
+    except Refused as refused:
+        raise Stopped(f"wfcheck verify refuses {name}: {refused}") from refused
+
+
+def picture(task: Task, text: Optional[str], asked: argparse.Namespace) -> Picture:
+    """The picture of a task, or of a report or an obstruction, once the program accepted it. Raises Error, TooLarge and Stopped."""
+    choice = Choice(asked.input, asked.faces, asked.all)
+    if text is None:
+        run(["views", "--rounds", 0], task.text)
+        if asked.outputs:
+            return outputs(task, asked.input)
+        if asked.rounds is None:
+            raise Stopped("--rounds R says after how many rounds, or --outputs asks for the outputs")
+        return of_complex(task, asked.rounds, choice)
+    if asked.outputs:
+        raise Stopped("--outputs is about a task alone")
+    if text.startswith(f"{OBSTRUCTION}\n"):
+        accepted(task, text, None, asked.report)
+        return of_obstruction(task, text, asked, choice)
+    accepted(task, text, asked.rounds, asked.report)
+    return of_report(task, text, choice)
+
+
+def outputs(task: Task, wanted: Optional[Simplex]) -> Picture:
+    """The picture of a task's outputs."""
+    rules = rules_of(task)
+    return Picture(of_outputs(task, wanted), lambda: page.of_inputs(rules, chosen_simplex(rules, wanted)))
+
+
+def of_complex(task: Task, rounds: int, choice: Choice) -> Picture:
+    """The picture of a complex."""
+    scene = pictures.of_complex(task, rounds, choice)
+    return Picture(scene, lambda: page.of_participants(scene, pictures.part_of(task, rounds, choice).made))
+
+
+def of_report(task: Task, text: str, choice: Choice) -> Picture:
+    """The picture of a report that was accepted."""
+    report = report_of(text)
+    if report.answer != "none":
+        values = [int(line[2:]) for line in body(text, FIRST)[1] if line.startswith("m ")]
+        scene = pictures.of_map(task, report.rounds, values, choice)
+        return Picture(scene, lambda: page.of_values(scene))
+    argument = argument_of(explain(task, text))
+    return Picture(pictures.of_refutation(task, report.rounds, argument, choice), lambda: page.of_argument(argument))
+
+
+def of_obstruction(task: Task, text: str, asked: argparse.Namespace, choice: Choice) -> Picture:
+    """The picture of an obstruction that was accepted, after one round if none are asked for."""
+    weights, rounds = weighted(task, text), 1 if asked.rounds is None else asked.rounds
+    scene = pictures.of_obstruction(task, rounds, weights, asked.seed, asked.any, choice)
+    made = pictures.part_of(task, rounds, choice, counts=True).made
+    return Picture(scene, lambda: page.of_weights(made, weights, scene.count))
+
+
+def keep(text: str, path: Optional[str]) -> None:
+    """Writes a text to standard output, or to a file that has it whole or is as it was."""
+    if path is None:
+        sys.stdout.write(text)
+        sys.stdout.flush()
+        return
+    file = pathlib.Path(path)
+    handle, made = tempfile.mkstemp(dir=file.parent, prefix=f".{file.name}.")
+    try:
+        with os.fdopen(handle, "w", encoding="utf-8") as it:
+            it.write(text)
+        os.chmod(made, 0o644)
+        os.replace(made, file)
+    except OSError:
+        os.unlink(made)
+        raise
+
+
+def main(listed: Optional[List[str]] = None) -> int:
+    """Does what the words say, and returns the status: 0 for a picture, 2 for none."""
+    asked = words().parse_args(sys.argv[1:] if listed is None else listed)
+    try:
+        task = read(asked.task)
+        text = None if asked.report is None else pathlib.Path(asked.report).read_text(encoding="ascii", errors="replace")
+        found = picture(task, text, asked)
+        keep(page.page(found.scene, found.side()) if asked.html else svg(found.scene), asked.output)
+    except (Error, Stopped, TooLarge, Unreadable) as why:
+        print(f"draw: {why}", file=sys.stderr)
+        return REFUSED
+    except (OSError, UnicodeDecodeError) as why:
+        print(f"draw: {' '.join(str(why).split())}", file=sys.stderr)
+        return REFUSED
+    return 0
+
+
+if __name__ == "__main__":
+    sys.exit(main())

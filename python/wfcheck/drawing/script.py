@@ -1,0 +1,166 @@
+"""The style and the script of a page: they need nothing from elsewhere, so the page works from a file."""
+
+STYLE = """
+:root{color-scheme:light dark;--paper:#fff;--back:#f2f4f6;--ink:#1b1f24;--soft:#57606a;--line:#d0d7de;--lit:#6d2a86;--glow:#efe0f5}
+*{box-sizing:border-box}
+body{margin:0;background:var(--back);color:var(--ink);font:15px/1.45 Helvetica,Arial,'Liberation Sans','DejaVu Sans',sans-serif}
+main{display:flex;flex-wrap:wrap;gap:20px;padding:20px;align-items:flex-start;max-width:1700px;margin:auto}
+figure{flex:3 1 560px;margin:0;position:sticky;top:20px}
+figure svg{width:100%;height:auto;max-height:calc(100vh - 40px);border:1px solid var(--line);border-radius:8px;background:var(--paper)}
+section{flex:2 1 360px;background:var(--paper);border:1px solid var(--line);border-radius:8px;padding:6px 18px 18px}
+h1{font-size:17px;margin:12px 0 6px}p{margin:8px 0;color:var(--soft)}
+ol,ul{list-style:none;margin:8px 0;padding:0}
+li>span{display:block;padding:5px 10px;color:var(--soft);font-weight:bold}
+li button{display:block;width:100%;text-align:left;padding:5px 10px;border:1px solid transparent;border-radius:6px;background:none;color:inherit;
+font:inherit;cursor:pointer}
+li button:hover{background:var(--back)}li button.cited{border:1px dashed var(--lit)}
+li button[aria-pressed=true]{background:var(--glow);border-color:var(--lit)}
+button:focus-visible,input:focus-visible{outline:3px solid var(--lit);outline-offset:1px}
+.tools button{padding:7px 14px;border:1px solid var(--soft);border-radius:6px;background:var(--back);color:inherit;font:inherit;cursor:pointer}
+.tools label{margin-left:14px}
+output{display:block;font-size:18px;font-weight:bold;margin:12px 0}kbd{border:1px solid var(--line);border-radius:4px;padding:0 5px;font-size:13px}
+.wf [hidden],.wf .ring{display:none}.wf .ring.lit,.wf .ring.cited{display:inline}
+.wf .near>.spot{stroke:var(--lit);stroke-width:4}.wf .cell,.wf .mark{cursor:pointer}
+@media (prefers-color-scheme:dark){
+:root{--paper:#14181d;--back:#1f252c;--ink:#e8ebee;--soft:#aab3bd;--line:#3a434d;--lit:#d9a5ee;--glow:#43264f}
+.wf text{fill:#e8ebee}.wf .paper{fill:#14181d}.wf .cell{fill:#20272e;stroke:#86919d}.wf line.cell{stroke:#c3cad2}
+.wf .lit{fill:#4c2b5a;stroke:#d9a5ee}.wf line.lit{stroke:#d9a5ee}.wf .cited{fill:#33233b;stroke:#b184c4}.wf line.cited{stroke:#b184c4}
+.wf .ring{fill:none;stroke:#d9a5ee}.wf .spot{stroke:#c3cad2}.wf .dim .spot{stroke:#6b7580}.wf .empty .spot{stroke:#d9a5ee}
+.wf .badge{fill:#14181d;stroke:#d9a5ee}.wf .badge.plus{fill:#e8ebee}.wf .number.plus{fill:#14181d}
+.wf .about,.wf .key,.wf .line,.wf .face{fill:#aab3bd}}
+"""
+
+SCRIPT = """
+(function () {
+  "use strict";
+  var data = JSON.parse(document.getElementById("data").textContent);
+  var find = function (rule) { return Array.prototype.slice.call(document.querySelectorAll(rule)); };
+  var cells = find(".wf [data-e]"), spots = find(".wf [data-v]"), buttons = find("button[data-item]");
+  var kept = cells.concat(spots).map(function (it) { return [it, it.getAttribute("class"), it.hasAttribute("hidden")]; });
+  function looks(spot) {
+    var value = spot.querySelector(".value"), text = spot.querySelector("text");
+    return [value.style.display, value.getAttribute("fill"), text ? text.textContent : "", text ? text.getAttribute("style") : ""];
+  }
+  var shown = data.live ? spots.map(looks) : [];
+  var chosen = -1;
+
+  // a spot shows a text, in the colour of a value if it is one
+  function show(spot, told) {
+    var value = spot.querySelector(".value"), text = spot.querySelector("text"), colours = data.colours[told];
+    value.style.display = colours ? "" : "none";
+    if (colours) { value.setAttribute("fill", colours[0]); }
+    if (text) {
+      text.textContent = told;
+      text.setAttribute("style", "fill:" + (colours ? colours[1] : spot.dataset.ink));
+    }
+  }
+
+  function restore() {
+    chosen = -1;
+    kept.forEach(function (it) {
+      it[0].setAttribute("class", it[1]);
+      if (it[2]) { it[0].setAttribute("hidden", ""); } else { it[0].removeAttribute("hidden"); }
+    });
+    shown.forEach(function (it, at) {
+      var value = spots[at].querySelector(".value"), text = spots[at].querySelector("text");
+      value.style.display = it[0];
+      value.setAttribute("fill", it[1]);
+      if (text) { text.textContent = it[2]; text.setAttribute("style", it[3]); }
+    });
+    buttons.forEach(function (it) { it.setAttribute("aria-pressed", "false"); it.classList.remove("cited"); });
+  }
+
+  // what is known at the points once a step is taken, in its case and in those about it
+  function known(number) {
+    var inside = {}, found = {}, at = data.items[number].k;
+    while (at >= 0) {
+      inside[at] = true;
+      if (data.cases[at][1] !== null) { found[data.cases[at][1]] = String(data.cases[at][2]); }
+      at = data.cases[at][0];
+    }
+    data.items.slice(0, number + 1).forEach(function (it) {
+      if (inside[it.k] && it.left !== null) { found[it.about] = it.left.replace(" or ", "/"); }
+    });
+    return found;
+  }
+
+  function choose(number) {
+    restore();
+    chosen = number;
+    var item = data.items[number], lit = {}, cited = {}, near = {};
+    item.e.forEach(function (it) { lit[it] = true; });
+    item.v.forEach(function (it) { near[it] = true; });
+    item.c.forEach(function (other) { data.items[other].e.forEach(function (it) { cited[it] = true; }); });
+    cells.forEach(function (it) {
+      var is = it.dataset.e in lit, was = !is && it.dataset.e in cited;
+      it.classList.toggle("lit", is);
+      it.classList.toggle("cited", was);
+      if (it.classList.contains("mark")) { it.toggleAttribute("hidden", !(is || was) || !it.textContent); }
+    });
+    var told = data.cases ? known(number) : null;
+    spots.forEach(function (it) {
+      it.classList.remove("empty");
+      it.classList.toggle("near", it.dataset.v in near);
+      if (told) { show(it, told[it.dataset.v] || ""); }
+    });
+    buttons.forEach(function (it) {
+      it.setAttribute("aria-pressed", String(Number(it.dataset.item) === number));
+      it.classList.toggle("cited", item.c.indexOf(Number(it.dataset.item)) >= 0);
+    });
+  }
+
+  buttons.forEach(function (it, at) {
+    it.addEventListener("click", function () { if (chosen === at) { restore(); } else { choose(at); } });
+  });
+  document.addEventListener("keydown", function (event) {
+    if (event.key === "Escape") { restore(); }
+    var at = buttons.indexOf(document.activeElement);
+    var to = { ArrowDown: at + 1, ArrowUp: at - 1, Home: 0, End: buttons.length - 1 }[event.key];
+    if (at >= 0 && to !== undefined && buttons[to]) { event.preventDefault(); buttons[to].focus(); choose(to); }
+  });
+  cells.forEach(function (it) {
+    it.addEventListener("click", function () {
+      var all = data.items.map(function (item, at) { return item.e.indexOf(Number(it.dataset.e)) >= 0 ? at : -1; });
+      all = all.filter(function (at) { return at >= 0; });
+      if (all.length && buttons.length) {
+        var next = all[(all.indexOf(chosen) + 1) % all.length];
+        choose(next);
+        buttons[next].scrollIntoView({ block: "nearest" });
+      }
+    });
+  });
+
+  // other values at the points: the executions that count, and the count
+  function draw() {
+    var any = document.getElementById("any").checked;
+    var values = data.choices.map(function (it) { var from = any ? data.values : it; return from[Math.floor(Math.random() * from.length)]; });
+    var sums = { "1": 0, "-1": 0 }, counts = {}, many = 0;
+    data.executions.forEach(function (it, at) {
+      var weight = data.weights[it[0] + ":" + it.slice(2).map(function (point) { return values[point]; }).join(",")];
+      if (weight) { counts[at] = [it[1], weight]; sums[it[1]] += weight; many += 1; }
+    });
+    cells.forEach(function (it) {
+      var found = counts[it.dataset.e];
+      it.classList.toggle("lit", Boolean(found));
+      if (it.classList.contains("mark")) {
+        it.toggleAttribute("hidden", !found);
+        if (found) {
+          it.querySelector("text").textContent = (found[0] > 0 ? "+" : "\\u2212") + found[1];
+          [it.querySelector("rect"), it.querySelector("text")].forEach(function (part) { part.classList.toggle("plus", found[0] > 0); });
+        }
+      }
+    });
+    spots.forEach(function (it) { show(it, String(values[it.dataset.v])); });
+    var plus = sums["1"], minus = sums["-1"], rest = ((plus - minus) % data.modulus + data.modulus) % data.modulus;
+    document.getElementById("count").textContent =
+      plus + " - " + minus + " = " + (plus - minus) + ", and " + (plus - minus) + " modulo " + data.modulus + " is " + rest;
+  }
+  if (data.executions) {
+    find(".wf .count").forEach(function (it) { it.setAttribute("hidden", ""); });
+    document.getElementById("draw").addEventListener("click", draw);
+    document.getElementById("any").addEventListener("change", draw);
+  } else if (data.first !== undefined) {
+    choose(data.first);
+  }
+}());
+"""
