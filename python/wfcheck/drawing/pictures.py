@@ -150,10 +150,8 @@ def simplices_of(task: Task, rounds: int, executions: Sequence[int]) -> List[Sim
 
 
 def numbers_text(numbers: Sequence[int]) -> str:
-    """The numbers of steps, the first three of them if there are more than four."""
-    if len(numbers) <= 4:
-        return ", ".join(map(str, numbers))
-    return ", ".join(map(str, numbers[:3])) + f" +{len(numbers) - 3}"
+    """The numbers of steps, or the first and how many there are more."""
+    return ", ".join(map(str, numbers)) if len(numbers) <= 3 else f"{numbers[0]} +{len(numbers) - 1}"
 
 
 def of_obstruction(task: Task, rounds: int, weights: Weights, seed: int, any_value: bool, choice: Choice) -> Scene:

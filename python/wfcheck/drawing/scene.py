@@ -4,7 +4,7 @@ import math
 from typing import Dict, Iterable, List, Optional, Sequence, Set, Tuple
 
 from ..tasks import Simplex, faces
-from .embedding import Layout, layout, place, shares
+from .embedding import GAP, Layout, Patch, layout, middle_of, place, shares
 from .graphs import XY
 from .subdivision import Complex, Rules
 
@@ -93,37 +93,84 @@ def chosen_facets(rules: Rules, wanted: Iterable[Simplex]) -> List[Simplex]:
     return [it for it in rules.facets if it in found]
 
 
+class Drawer:
+    """Puts the executions of a complex at the places that a layout has, each once at each place."""
+
+    def __init__(self, made: Complex, found: Layout, scene: Scene) -> None:
+        self.made, self.layout, self.scene = made, found, scene
+        self.scale, self.shares = scale_of(made, found), shares(made)
+        self.spots: Dict[Tuple[int, int, int], int] = {}
+        self.placed: Set[Tuple[int, ...]] = set()
+        self.seen: Set[int] = set()
+
+    def at(self, xy: XY) -> XY:
+        """A place of the layout on the sheet, where y grows downwards."""
+        return xy[0] * self.scale, -xy[1] * self.scale
+
+    def spot(self, view: int, patch: Patch) -> int:
+        """The spot of a view in a patch, which is a new one if nothing stands there."""
+        x, y = place(self.shares[view], patch.corners)
+        key = view, round(x / TINY), round(y / TINY)
+        if key not in self.spots:
+            self.spots[key] = len(self.scene.spots)
+            point = self.made.points[view]
+            title = f"v{point}: {self.made.view_text(view)}"
+            self.scene.spots.append(Spot(view, point, self.made.views[view].process, self.at((x, y)), title))
+        return self.spots[key]
+
+    def cell(self, number: int, patch: Patch) -> None:
+        """Draws an execution in a patch."""
+        ends = tuple(self.spot(view, patch) for view in self.made.executions[number].ends)
+        if (number, *ends) not in self.placed:
+            self.placed.add((number, *ends))
+            title = f"execution {number}: {self.made.execution_text(number)}"
+            self.scene.cells.append(Cell(number, ends, title, number in self.seen, middle=self.at(patch.middle)))
+            self.seen.add(number)
+
+    def draw(self, inside: bool) -> None:
+        """Draws all executions of the patches, or those of at most two processes alone."""
+        by_simplex: Dict[Simplex, List[int]] = {}
+        for number, execution in enumerate(self.made.executions):
+            by_simplex.setdefault(execution.simplex, []).append(number)
+        for patch in self.layout.patches:
+            for face in [it for it in faces(patch.simplex) if inside or len(it) < 3]:
+                for number in by_simplex[face]:
+                    self.cell(number, patch)
+
+    def name_corners(self) -> None:
+        """Gives the corners of patches the names of their inputs."""
+        seen = set()
+        for patch in self.layout.patches:
+            for (process, value), xy in patch.corners.items():
+                key = process, value, round(xy[0] / TINY), round(xy[1] / TINY)
+                if key not in seen:
+                    seen.add(key)
+                    where = beside(self.at(xy), self.at(patch.middle), self.scene.radius)
+                    self.scene.notes.append(Note(where, f"p{process} = {value}", "corner"))
+
+    def name_faces(self) -> None:
+        """Gives each edge that is drawn at several places a letter."""
+        places: Dict[Simplex, Dict[Tuple[int, int], Tuple[XY, XY]]] = {}
+        for patch in self.layout.patches:
+            for edge in [it for it in faces(patch.simplex) if len(it) == 2]:
+                middle = self.at(middle_of([patch.corners[it] for it in edge]))
+                known = places.setdefault(edge, {})
+                known.setdefault((round(middle[0]), round(middle[1])), (middle, self.at(middle_of([*patch.corners.values()]))))
+        for number, listed in enumerate(it for it in places.values() if len(it) > 1):
+            for at, center in listed.values():
+                self.scene.notes.append(Note(away(at, center, self.scene.radius + 9), letters(number), "face"))
+
+
 def drawn(made: Complex, facets: Sequence[Simplex], heading: str, inside: bool = True) -> Scene:
     """The scene of a complex over some facets, or of their faces of at most two processes alone."""
-    found = layout(facets)
-    scene = Scene(heading, processes=sorted({p for it in facets for p, _ in it}),
-                  palette=made.rules.values)
-    scale = scale_of(made, found)
-    spots: Dict[Tuple[int, int, int], int] = {}
-    cells: Dict[Tuple[int, ...], None] = {}
-    by_simplex: Dict[Simplex, List[int]] = {}
-    for number, execution in enumerate(made.executions):
-        by_simplex.setdefault(execution.simplex, []).append(number)
-    parts, titles = shares(made), [f"v{made.points[it]}: {made.view_text(it)}" if it in made.points else "" for it in range(len(made.views))]
-    seen: Set[int] = set()
-    for patch in found.patches:
-        for face in [it for it in faces(patch.simplex) if inside or len(it) < 3]:
-            for number in by_simplex[face]:
-                ends = []
-                for view in made.executions[number].ends:
-                    x, y = place(parts[view], patch.corners)
-                    key = view, round(x / TINY), round(y / TINY)
-                    if key not in spots:
-                        spots[key] = len(scene.spots)
-                        scene.spots.append(Spot(view, made.points[view], made.views[view].process, (x * scale, -y * scale), titles[view]))
-                    ends.append(spots[key])
-                if (number, *ends) not in cells:
-                    cells[(number, *ends)] = None
-                    title = f"execution {number}: {made.execution_text(number)}"
-                    middle = patch.middle[0] * scale, -patch.middle[1] * scale
-                    scene.cells.append(Cell(number, tuple(ends), title, number in seen, middle=middle))
-                    seen.add(number)
-    finish(made, scene, found, scale)
+    scene = Scene(heading, processes=sorted({p for it in facets for p, _ in it}), palette=made.rules.values)
+    drawer = Drawer(made, layout(facets), scene)
+    drawer.draw(inside)
+    scene.radius = max(LEAST_RADIUS, min(MOST_RADIUS, 0.36 * nearest([it.at for it in scene.spots])))
+    drawer.name_corners()
+    if drawer.layout.is_apart:
+        drawer.name_faces()
+    on_sheet(scene)
     return scene
 
 
@@ -134,24 +181,12 @@ def scale_of(made: Complex, found: Layout) -> float:
     wide = max(x for it in found.patches for x, _ in it.corners.values())
     if is_graph:
         return side / (1.0 if wide <= 1.01 else 1.5 if wide <= 2.1 else 2.2)
-    columns = min(4, max(1, round((wide + 0.34) / 1.34)))
+    columns = min(4, max(1, round((wide + GAP) / (1 + GAP))))
     return side * SHORTER[columns]
 
 
-def finish(made: Complex, scene: Scene, found: Layout, scale: float) -> None:
-    """Gives spots their size, corners and shared faces their names, and all of it its place on the sheet."""
-    scene.radius = max(LEAST_RADIUS, min(MOST_RADIUS, 0.36 * nearest([it.at for it in scene.spots])))
-    several: Dict[Tuple[str, int, int], None] = {}
-    for patch in found.patches:
-        for (process, value), (x, y) in patch.corners.items():
-            at = x * scale, -y * scale
-            name = f"p{process} = {value}"
-            if (name, round(at[0]), round(at[1])) not in several:
-                several[(name, round(at[0]), round(at[1]))] = None
-                middle = patch.middle[0] * scale, -patch.middle[1] * scale
-                scene.notes.append(Note(beside(at, middle, scene.radius), name, "corner"))
-    if found.is_apart:
-        scene.notes += shared_faces(found, scale, scene.radius)
+def on_sheet(scene: Scene) -> None:
+    """Moves all so that the least coordinates have a margin, and says how large the sheet is."""
     every = [it.at for it in scene.spots] + [it.at for it in scene.notes]
     left, top = min(x for x, _ in every) - MARGIN, min(y for _, y in every) - MARGIN / 2
     scene.size = max(x for x, _ in every) - left + MARGIN, max(y for _, y in every) - top + MARGIN / 2
@@ -161,23 +196,6 @@ def finish(made: Complex, scene: Scene, found: Layout, scale: float) -> None:
         note.at = note.at[0] - left, note.at[1] - top
     for cell in scene.cells:
         cell.middle = cell.middle[0] - left, cell.middle[1] - top
-
-
-def shared_faces(found: Layout, scale: float, radius: float) -> List[Note]:
-    """A letter at each edge that is drawn at several places."""
-    places: Dict[Simplex, List[Tuple[XY, XY]]] = {}
-    for patch in found.patches:
-        for edge in [it for it in faces(patch.simplex) if len(it) == 2]:
-            (ax, ay), (bx, by) = (patch.corners[it] for it in edge)
-            middle = (ax + bx) / 2 * scale, -(ay + by) / 2 * scale
-            center = (sum(x for x, _ in patch.corners.values()) / len(patch.corners) * scale,
-                      -sum(y for _, y in patch.corners.values()) / len(patch.corners) * scale)
-            known = places.setdefault(edge, [])
-            if not any(math.dist(middle, it) < 1 for it, _ in known):
-                known.append((middle, center))
-    several = [it for it, listed in places.items() if len(listed) > 1]
-    return [Note(away(at, center, radius + 9), letters(number), "face")
-            for number, edge in enumerate(several) for at, center in places[edge]]
 
 
 def letters(number: int) -> str:

@@ -5,7 +5,7 @@ from xml.sax.saxutils import escape, quoteattr
 
 from .graphs import XY, area
 from .palette import SHADES, colour, ink, outline, short, tint
-from .scene import Cell, Note, Scene, Spot
+from .scene import READABLE, Cell, Note, Scene, Spot
 
 STYLE = """
 .wf text{font-family:Helvetica,Arial,'Liberation Sans','DejaVu Sans',sans-serif;fill:#1b1f24;text-anchor:middle}
@@ -18,7 +18,9 @@ STYLE = """
 .wf .count{font-size:16px;font-weight:bold;text-anchor:start}.wf .corner{font-size:13px;font-style:italic}.wf .face{font-size:12px;font-style:italic;fill:#57606a}.wf .number{font-weight:bold}
 """.replace("\n", "")
 TOP, ROW, PAD = 64.0, 21.0, 24.0
-LEAST_WIDTH, LEAST_LABEL = 430.0, 5.5
+LEAST_WIDTH, LEAST_LABEL, FINE = 430.0, 7.0, 12
+# places in a triangle by their parts of the corners, its middle first
+SHARES = [(1 / 3, 1 / 3, 1 / 3)] + [(a / FINE, b / FINE, (FINE - a - b) / FINE) for a in range(1, FINE) for b in range(1, FINE - a)]
 
 
 def svg(scene: Scene, live: bool = False) -> str:
@@ -115,7 +117,7 @@ def label_place(it: Cell, scene: Scene) -> XY:
     """Where the label of a cell stands: in a triangle, beside an edge or a point."""
     places = [scene.spots[at].at for at in it.spots]
     if len(places) == 3:
-        return inner_circle(places)[0]
+        return roomiest(places, scene.radius)[0]
     x, y = sum(a for a, _ in places) / len(places), sum(b for _, b in places) / len(places)
     if len(places) == 1:
         far = scene.radius * 0.8 + 18
@@ -130,12 +132,16 @@ def label_place(it: Cell, scene: Scene) -> XY:
     return x + side * across[0] / length * far, y + side * across[1] / length * far
 
 
-def inner_circle(corners: Sequence[XY]) -> Tuple[XY, float]:
-    """The middle and the radius of the largest circle in a triangle."""
+def roomiest(corners: Sequence[XY], radius: float) -> Tuple[XY, float]:
+    """The place in a triangle that has most room beside its edges and the spots at its corners, and how much."""
+    best: Tuple[float, XY] = -math.inf, corners[0]
     sides = [math.dist(corners[1], corners[2]), math.dist(corners[0], corners[2]), math.dist(corners[0], corners[1])]
-    around = sum(sides)
-    x, y = (sum(side * corner[at] for side, corner in zip(sides, corners)) / around for at in (0, 1))
-    return (x, y), 2 * abs(area(corners)) / around
+    height = [2 * abs(area(corners)) / side for side in sides]
+    for parts in SHARES if radius >= READABLE else SHARES[:1]:
+        x, y = (sum(part * corner[at] for part, corner in zip(parts, corners)) for at in (0, 1))
+        room = min(*(part * each * 1.5 for part, each in zip(parts, height)), *(math.dist((x, y), it) - radius * 1.2 for it in corners))
+        best = max(best, (round(room, 3), (x, y)), key=lambda it: it[0])
+    return best[1], best[0]
 
 
 def label(it: Cell, scene: Scene) -> str:
@@ -143,7 +149,7 @@ def label(it: Cell, scene: Scene) -> str:
     x, y = label_place(it, scene)
     size = 11.0 if scene.radius > 6 else 9.0
     if len(it.spots) == 3:
-        size = max(LEAST_LABEL, min(size, inner_circle([scene.spots[at].at for at in it.spots])[1] * 0.75))
+        size = max(LEAST_LABEL, min(size, roomiest([scene.spots[at].at for at in it.spots], scene.radius)[1]))
     wide = max(size * 1.55, size * (0.62 * len(it.label) + 0.7))
     sign = [mark for mark in it.marks if mark in ("plus", "minus")]
     hidden = "" if it.label else ' hidden=""'
