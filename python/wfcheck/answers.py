@@ -1,7 +1,7 @@
 """Answers about a task, as objects that are read from the texts that the program writes."""
 import dataclasses
 import re
-from typing import Dict, List, NamedTuple, Sequence, Tuple, Union
+from typing import Dict, List, NamedTuple, Optional, Sequence, Tuple, Union
 
 from .tasks import Simplex, Task
 from .views import Unreadable, View
@@ -55,6 +55,11 @@ class Map:
     steps: Tuple[Step, ...] = dataclasses.field(repr=False)
     report: str = dataclasses.field(repr=False)
 
+    def _repr_svg_(self) -> Optional[str]:
+        """The answer as a picture, where a notebook shows it."""
+        from .drawing.notebook import picture_of
+        return picture_of(self)
+
 
 @dataclasses.dataclass(frozen=True)
 class Refutation:
@@ -64,6 +69,11 @@ class Refutation:
     rounds: int
     steps: Tuple[Step, ...] = dataclasses.field(repr=False)
     report: str = dataclasses.field(repr=False)
+
+    def _repr_svg_(self) -> Optional[str]:
+        """The answer as a picture, where a notebook shows it."""
+        from .drawing.notebook import picture_of
+        return picture_of(self)
 
 
 @dataclasses.dataclass(frozen=True)
@@ -85,6 +95,11 @@ class Obstruction:
     sum: int
     tuples: Tuple[Weighted, ...]
     text: str = dataclasses.field(repr=False)
+
+    def _repr_svg_(self) -> Optional[str]:
+        """The answer as a picture, where a notebook shows it."""
+        from .drawing.notebook import picture_of
+        return picture_of(self)
 
 
 Answer = Union[Map, Refutation, Proof, Obstruction]

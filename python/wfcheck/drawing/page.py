@@ -60,6 +60,8 @@ def of_argument(argument: Argument) -> Side:
             items.append(item([] if it.execution is None else [it.execution], it.points, k=it.case, about=it.point, left=it.left,
                               c=[places[number] for number in it.cites if number in places]))
         elif isinstance(it, Line):
+            if items and items[-1]["about"] == it.empty:
+                items[-1]["left"] = "×"
             entries.append(f'<li style="margin-left:{min(depth, 12) * 18}px"><span>{escape(it.text)}</span></li>')
     words = [KEYS, "<p>A step lights its execution and points, and with dashes the executions of the steps that it cites.</p>",
              '<ol aria-label="Steps of the argument">', *entries, "</ol>"]
@@ -113,7 +115,7 @@ def of_weights(made: Complex, weights: Weights, text: str) -> Side:
     groups: Dict[Any, List[str]] = {}
     for (simplex, values), weight in weights.tuples.items():
         groups.setdefault((simplex, weight), []).append(" ".join(map(str, values)))
-    entries = [f"<li><span>{escape(simplex_text(simplex))}, weight {weight}</span>{escape(', '.join(told))}</li>"
+    entries = [f"<li><span>{escape(simplex_text(simplex))}, weight {weight}</span><div>{escape(', '.join(told))}</div></li>"
                for (simplex, weight), told in groups.items()]
     words = ["<p>Each point has any value. An execution counts with its sign and the weight of its tuple.</p>",
              '<div class="tools"><button type="button" id="draw">Other values</button>',

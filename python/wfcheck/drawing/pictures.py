@@ -33,6 +33,8 @@ class Part(NamedTuple):
         if len(self.facets) < len(whole):
             of = KINDS[max(map(len, whole))]
             scene.lines.append(f"Drawn: {len(self.facets)} of {len(whole)} input {of}.")
+        if any(it.kind == "face" for it in scene.notes):
+            scene.lines.append("Edges with the same letter are one.")
         if not self.inside:
             scene.lines.append("Executions of more than two processes are left out.")
         elif any(len(it) == 4 for it in self.facets):

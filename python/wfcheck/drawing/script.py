@@ -10,7 +10,7 @@ figure svg{width:100%;height:auto;max-height:calc(100vh - 40px);border:1px solid
 section{flex:2 1 360px;background:var(--paper);border:1px solid var(--line);border-radius:8px;padding:6px 18px 18px}
 h1{font-size:17px;margin:12px 0 6px}p{margin:8px 0;color:var(--soft)}
 ol,ul{list-style:none;margin:8px 0;padding:0}
-li>span{display:block;padding:5px 10px;color:var(--soft);font-weight:bold}
+li>div{padding:0 10px}li>span{display:block;padding:5px 10px;color:var(--soft);font-weight:bold}
 li button{display:block;width:100%;text-align:left;padding:5px 10px;border:1px solid transparent;border-radius:6px;background:none;color:inherit;
 font:inherit;cursor:pointer}
 li button:hover{background:var(--back)}li button.cited{border:1px dashed var(--lit)}
@@ -23,11 +23,11 @@ output{display:block;font-size:18px;font-weight:bold;margin:12px 0}kbd{border:1p
 .wf .near>.spot{stroke:var(--lit);stroke-width:4}.wf .cell,.wf .mark{cursor:pointer}
 @media (prefers-color-scheme:dark){
 :root{--paper:#14181d;--back:#1f252c;--ink:#e8ebee;--soft:#aab3bd;--line:#3a434d;--lit:#d9a5ee;--glow:#43264f}
-.wf text{fill:#e8ebee}.wf .paper{fill:#14181d}.wf .cell{fill:#20272e;stroke:#86919d}.wf line.cell{stroke:#c3cad2}
-.wf .lit{fill:#4c2b5a;stroke:#d9a5ee}.wf line.lit{stroke:#d9a5ee}.wf .cited{fill:#33233b;stroke:#b184c4}.wf line.cited{stroke:#b184c4}
-.wf .ring{fill:none;stroke:#d9a5ee}.wf .spot{stroke:#c3cad2}.wf .dim .spot{stroke:#6b7580}.wf .empty .spot{stroke:#d9a5ee}
-.wf .badge{fill:#14181d;stroke:#d9a5ee}.wf .badge.plus{fill:#e8ebee}.wf .number.plus{fill:#14181d}
-.wf .about,.wf .key,.wf .line,.wf .face{fill:#aab3bd}}
+figure .wf text{fill:#e8ebee}figure .wf .paper{fill:#14181d}figure .wf .cell{fill:#20272e;stroke:#86919d}figure .wf line.cell{stroke:#c3cad2}
+figure .wf .lit{fill:#4c2b5a;stroke:#d9a5ee}figure .wf line.lit{stroke:#d9a5ee}figure .wf .cited{fill:#33233b;stroke:#b184c4}figure .wf line.cited{stroke:#b184c4}
+figure .wf .ring{fill:none;stroke:#d9a5ee}figure .wf .spot{stroke:#c3cad2}figure .wf .dim .spot{stroke:#6b7580}figure .wf .empty .spot{stroke:#d9a5ee}
+figure .wf .badge{fill:#14181d;stroke:#d9a5ee}figure .wf .badge.plus{fill:#e8ebee}figure .wf .number.plus{fill:#14181d}
+figure .wf .about,figure .wf .key,figure .wf .line,figure .wf .face{fill:#aab3bd}}
 """
 
 SCRIPT = """
@@ -72,14 +72,18 @@ SCRIPT = """
 
   // what is known at the points once a step is taken, in its case and in those about it
   function known(number) {
-    var inside = {}, found = {}, at = data.items[number].k;
-    while (at >= 0) {
-      inside[at] = true;
+    var inside = {}, entered = {}, found = {}, at = data.items[number].k;
+    while (at >= 0) { inside[at] = true; at = data.cases[at][0]; }
+    function enter(at) {
+      if (at < 0 || entered[at]) { return; }
+      entered[at] = true;
+      enter(data.cases[at][0]);
       if (data.cases[at][1] !== null) { found[data.cases[at][1]] = String(data.cases[at][2]); }
-      at = data.cases[at][0];
     }
     data.items.slice(0, number + 1).forEach(function (it) {
-      if (inside[it.k] && it.left !== null) { found[it.about] = it.left.replace(" or ", "/"); }
+      if (!inside[it.k]) { return; }
+      enter(it.k);
+      if (it.left !== null) { found[it.about] = it.left.replace(" or ", "/"); }
     });
     return found;
   }
@@ -93,9 +97,12 @@ SCRIPT = """
     item.c.forEach(function (other) { data.items[other].e.forEach(function (it) { cited[it] = true; }); });
     cells.forEach(function (it) {
       var is = it.dataset.e in lit, was = !is && it.dataset.e in cited;
-      it.classList.toggle("lit", is);
-      it.classList.toggle("cited", was);
-      if (it.classList.contains("mark")) { it.toggleAttribute("hidden", !(is || was) || !it.textContent); }
+      if (it.classList.contains("mark")) {
+        it.toggleAttribute("hidden", !(is || was) || !it.textContent);
+      } else {
+        it.classList.toggle("lit", is);
+        it.classList.toggle("cited", was);
+      }
     });
     var told = data.cases ? known(number) : null;
     spots.forEach(function (it) {
@@ -130,6 +137,16 @@ SCRIPT = """
     });
   });
 
+  // a badge with a sign and a weight, as wide as its text
+  function mark(it, found) {
+    var text = it.querySelector("text"), badge = it.querySelector("rect"), size = Number(text.getAttribute("font-size"));
+    text.textContent = (found[0] > 0 ? "+" : "\\u2212") + found[1];
+    var wide = Math.max(1.55 * size, size * (0.62 * text.textContent.length + 0.7));
+    badge.setAttribute("width", wide);
+    badge.setAttribute("x", Number(text.getAttribute("x")) - wide / 2);
+    [badge, text].forEach(function (part) { part.classList.toggle("plus", found[0] > 0); });
+  }
+
   // other values at the points: the executions that count, and the count
   function draw() {
     var any = document.getElementById("any").checked;
@@ -141,13 +158,11 @@ SCRIPT = """
     });
     cells.forEach(function (it) {
       var found = counts[it.dataset.e];
-      it.classList.toggle("lit", Boolean(found));
-      if (it.classList.contains("mark")) {
+      if (!it.classList.contains("mark")) {
+        it.classList.toggle("lit", Boolean(found));
+      } else {
         it.toggleAttribute("hidden", !found);
-        if (found) {
-          it.querySelector("text").textContent = (found[0] > 0 ? "+" : "\\u2212") + found[1];
-          [it.querySelector("rect"), it.querySelector("text")].forEach(function (part) { part.classList.toggle("plus", found[0] > 0); });
-        }
+        if (found) { mark(it, found); }
       }
     });
     spots.forEach(function (it) { show(it, String(values[it.dataset.v])); });
@@ -156,7 +171,6 @@ SCRIPT = """
       plus + " - " + minus + " = " + (plus - minus) + ", and " + (plus - minus) + " modulo " + data.modulus + " is " + rest;
   }
   if (data.executions) {
-    find(".wf .count").forEach(function (it) { it.setAttribute("hidden", ""); });
     document.getElementById("draw").addEventListener("click", draw);
     document.getElementById("any").addEventListener("change", draw);
   } else if (data.first !== undefined) {

@@ -25,7 +25,7 @@ SHARES = [(1 / 3, 1 / 3, 1 / 3)] + [(a / FINE, b / FINE, (FINE - a - b) / FINE) 
 
 def svg(scene: Scene, live: bool = False) -> str:
     """The scene as the text of an SVG file. A live one also has what a script may show."""
-    legend, bottom = legend_of(scene)
+    legend, bottom = legend_of(scene, live)
     width = max(scene.size[0], LEAST_WIDTH, *(text_width(it) + 2 * PAD for it in [scene.heading + "   ", scene.about, *scene.lines]))
     height = TOP + scene.size[1] + bottom
     left = (width - scene.size[0]) / 2
@@ -57,8 +57,8 @@ def drawing(scene: Scene, live: bool) -> List[str]:
     order = sorted(scene.cells, key=lambda it: (len(it.spots) < 3, bool(it.marks & {"lit"})))
     parts = [f'<g stroke-width="{thin}">', *(cell(it, scene) for it in order if len(it.spots) > 1), "</g>"]
     parts += [f'<g stroke-width="{1.1 if scene.radius > 5 else 0.5}">', *(spot(it, scene, live) for it in scene.spots), "</g>"]
-    parts += [ring(it, scene) for it in order if len(it.spots) == 1 and (it.marks or live)]
-    parts += [label(it, scene) for it in scene.cells if it.label or live]
+    parts += [ring(it, scene) for it in order if len(it.spots) == 1 and (it.marks or live and scene.count)]
+    parts += [label(it, scene) for it in scene.cells if it.label or live and scene.count]
     return parts + [note(it) for it in scene.notes]
 
 
@@ -163,7 +163,7 @@ def note(it: Note) -> str:
     return f'<text class="{it.kind}" x="{short(it.at[0])}" y="{short(it.at[1] + 4.5)}">{escape(it.text)}</text>'
 
 
-def legend_of(scene: Scene) -> Tuple[List[str], float]:
+def legend_of(scene: Scene, live: bool) -> Tuple[List[str], float]:
     """The legend under the picture, and how high it is: the processes, the values, what marks mean, and lines in words."""
     parts, x, y = [], 0.0, 14.0
     for process in scene.processes:
@@ -178,7 +178,7 @@ def legend_of(scene: Scene) -> Tuple[List[str], float]:
                          f'<text class="key" x="{short(x + 22)}" y="{short(y + 4.5)}">{value}</text>')
             x += 32 + 9 * len(str(value))
         parts.append(f'<text class="key" x="{short(x + 4)}" y="{short(y + 4.5)}">{scene.values_are}</text>')
-    if scene.count:
+    if scene.count and not live:
         y += ROW + 6
         parts.append(f'<text class="count" x="0" y="{short(y + 4.5)}">{escape(scene.count)}</text>')
     for line in scene.lines:
