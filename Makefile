@@ -1,7 +1,7 @@
 # Needs the toolchain's command `rt` on the path, and Python 3. `bench` needs g++ and rustc as well; where there is a C compiler, `test`
 # also has calls of the operating system fail in turn.
 
-.PHONY: demo build verifier quick test definitions bench
+.PHONY: demo build verifier quick test definitions bench pictures
 
 # Four questions that the field knows the answers to, or with TASK=FILE ROUNDS=R a task of one's own. Where `make build` hasn't
 # left a program yet, it is run from its sources, without its proofs, in two or three minutes. make itself ends with 2 for each status of
@@ -36,3 +36,7 @@ definitions:
 bench:
 	bench/run
 	bench/search
+
+# Makes the pictures of docs/pictures anew, by the commands of its page. It needs bin/wfcheck.
+pictures:
+	docs/make-pictures

@@ -20,7 +20,7 @@ from .scene import Scene, TooLarge
 from .subdivision import rules_of
 from .svg import svg
 
-REFUSED = 2
+REFUSED, INSTALLED = 2, "wfcheck-draw"
 ABOUT = """Draws a task's complex after some rounds, and what a report or an obstruction says of it. `wfcheck verify` is asked first: what it
 refuses is not drawn. Nothing is proved of a picture."""
 
@@ -52,7 +52,9 @@ def number(text: str) -> int:
 
 def words() -> argparse.ArgumentParser:
     """The command line."""
-    found = argparse.ArgumentParser(prog="wfcheck draw", description=ABOUT, allow_abbrev=False)
+    name = pathlib.Path(sys.argv[0]).name
+    prog = name if name == INSTALLED else "python3 -m wfcheck draw"
+    found = argparse.ArgumentParser(prog=prog, description=ABOUT, allow_abbrev=False)
     found.add_argument("task", metavar="TASK", help="the file of a task")
     found.add_argument("report", metavar="REPORT", nargs="?", help="a report or an obstruction that `wfcheck` wrote")
     found.add_argument("--rounds", type=number, metavar="R", help="rounds of the complex; with a report it has to be about as many")
@@ -132,6 +134,8 @@ def keep(text: str, path: Optional[str]) -> None:
         sys.stdout.flush()
         return
     file = pathlib.Path(path)
+    if not file.parent.is_dir():
+        raise Stopped(f"{file.parent} is no folder to write into")
     handle, made = tempfile.mkstemp(dir=file.parent, prefix=f".{file.name}.")
     try:
         with os.fdopen(handle, "w", encoding="utf-8") as it:
@@ -154,8 +158,11 @@ def main(listed: Optional[List[str]] = None) -> int:
     except (Error, Stopped, TooLarge, Unreadable) as why:
         print(f"draw: {why}", file=sys.stderr)
         return REFUSED
-    except (OSError, UnicodeDecodeError) as why:
-        print(f"draw: {' '.join(str(why).split())}", file=sys.stderr)
+    except OSError as why:
+        print(f"draw: {why.filename if why.filename else 'writing'}: {why.strerror}", file=sys.stderr)
+        return REFUSED
+    except UnicodeDecodeError:
+        print(f"draw: {asked.task}: this is no text of UTF-8", file=sys.stderr)
         return REFUSED
     return 0
 

@@ -49,7 +49,7 @@ def part_of(task: Task, rounds: int, choice: Choice, needed: Optional[Sequence[S
     many = 0 if choice.faces else triangles(rules, rounds, facets)
     if many > MOST_TRIANGLES:
         raise TooLarge(f"{many:,} triangles are too many to draw, and {MOST_TRIANGLES:,} is the most: --faces draws the boundary, "
-                       "and --input a part")
+                       "and --input one input")
     most = 4 if counts else 2 if choice.faces else 3
     if many_executions(rules, rounds, most) > MOST_EXECUTIONS or edges(rules, rounds, facets) > MOST_EDGES:
         raise TooLarge(f"after {counted(rounds, 'round')} this complex is too large to draw: ask for fewer rounds")
