@@ -87,9 +87,12 @@ def of_complex(task: Task, rounds: int, choice: Choice) -> Scene:
 
 
 def sizes(part: Part) -> str:
-    """How many points and executions a drawn part has."""
-    whole = part.inside and len(part.made.rules.simplices[-1]) < 4
-    return f"{counted(len(part.made.classes), 'point')}, {counted(len(part.made.executions), 'execution')}" if whole else ""
+    """How many points and executions a complex has, as far as they are drawn for some input."""
+    told = f"{counted(len(part.made.classes), 'point')}, {counted(len(part.made.executions), 'execution')}"
+    most = 3 if part.inside else 2
+    if len(part.made.rules.simplices[-1]) > most:
+        return f"{told} of at most {'three' if most == 3 else 'two'} processes"
+    return f"{told} in all" if len(part.facets) < len(part.made.rules.facets) else told
 
 
 def of_map(task: Task, rounds: int, values: Sequence[int], choice: Choice) -> Scene:

@@ -13,7 +13,7 @@ SIDES, EDGES = [300.0, 520.0, 820.0, 1180.0], [260.0, 420.0, 720.0, 1080.0]
 # how much shorter sides are if there are so many groups of patches in a row
 SHORTER = {1: 1.0, 2: 0.74, 3: 0.56, 4: 0.46}
 MOST_RADIUS, LEAST_RADIUS, READABLE = 12.0, 2.0, 6.5
-MARGIN, TINY = 64.0, 1e-6
+MARGIN, ABOVE, TINY = 64.0, 44.0, 1e-6
 
 
 class TooLarge(Exception):
@@ -188,7 +188,8 @@ def scale_of(made: Complex, found: Layout) -> float:
 def on_sheet(scene: Scene) -> None:
     """Moves all so that the least coordinates have a margin, and says how large the sheet is."""
     every = [it.at for it in scene.spots] + [it.at for it in scene.notes]
-    left, top = min(x for x, _ in every) - MARGIN, min(y for _, y in every) - MARGIN / 2
+    left = min(x for x, _ in every) - MARGIN
+    top = min([it.at[1] - ABOVE for it in scene.spots] + [it.at[1] - MARGIN / 2 for it in scene.notes])
     scene.size = max(x for x, _ in every) - left + MARGIN, max(y for _, y in every) - top + MARGIN / 2
     for spot in scene.spots:
         spot.at = spot.at[0] - left, spot.at[1] - top

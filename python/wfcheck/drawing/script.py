@@ -20,12 +20,12 @@ button:focus-visible,input:focus-visible{outline:3px solid var(--lit);outline-of
 .tools label{margin-left:14px}
 output{display:block;font-size:18px;font-weight:bold;margin:12px 0}kbd{border:1px solid var(--line);border-radius:4px;padding:0 5px;font-size:13px}
 .wf [hidden],.wf .ring{display:none}.wf .ring.lit,.wf .ring.cited{display:inline}
-.wf .near>.spot{stroke:var(--lit);stroke-width:4}.wf .cell,.wf .mark{cursor:pointer}
+.wf .at:not(.empty)>.halo{display:none}.wf .near>.spot{stroke:var(--lit);stroke-width:4}.wf .cell,.wf .mark{cursor:pointer}
 @media (prefers-color-scheme:dark){
 :root{--paper:#14181d;--back:#1f252c;--ink:#e8ebee;--soft:#aab3bd;--line:#3a434d;--lit:#d9a5ee;--glow:#43264f}
 figure .wf text{fill:#e8ebee}figure .wf .paper{fill:#14181d}figure .wf .cell{fill:#20272e;stroke:#86919d}figure .wf line.cell{stroke:#c3cad2}
 figure .wf .lit{fill:#4c2b5a;stroke:#d9a5ee}figure .wf line.lit{stroke:#d9a5ee}figure .wf .cited{fill:#33233b;stroke:#b184c4}figure .wf line.cited{stroke:#b184c4}
-figure .wf .ring{fill:none;stroke:#d9a5ee}figure .wf .spot{stroke:#c3cad2}figure .wf .dim .spot{stroke:#6b7580}figure .wf .empty .spot{stroke:#d9a5ee}
+figure .wf .ring{fill:none;stroke:#d9a5ee}figure .wf .spot{stroke:#c3cad2}figure .wf .dim .spot{stroke:#6b7580}figure .wf .halo{fill:#d9a5ee}
 figure .wf .badge{fill:#14181d;stroke:#d9a5ee}figure .wf .badge.plus{fill:#e8ebee}figure .wf .number.plus{fill:#14181d}
 figure .wf .about,figure .wf .key,figure .wf .line,figure .wf .face{fill:#aab3bd}}
 """

@@ -12,7 +12,7 @@ STYLE = """
 .wf .paper{fill:#fff}.wf .cell{fill:#f4f6f8;stroke:#7b848f;stroke-linejoin:round}.wf line.cell{stroke:#3d444d}
 .wf .lit{fill:#efe0f5;stroke:#6d2a86;stroke-width:2.4}.wf line.lit{stroke:#6d2a86;stroke-width:4.5}.wf circle.lit{stroke-width:2.4}
 .wf .cited{fill:#f8f1fb;stroke:#9a6bb0;stroke-width:1.6;stroke-dasharray:5 3}.wf line.cited{stroke:#9a6bb0;stroke-width:3.2}
-.wf .spot{stroke:#1b1f24}.wf .dim .spot{stroke:#9aa2ab}.wf .empty .spot{stroke:#6d2a86;stroke-width:4.5}.wf .ring{fill:none;stroke:#6d2a86;stroke-width:2.4}.wf .ring.cited{fill:none}
+.wf .spot{stroke:#1b1f24}.wf .dim .spot{stroke:#9aa2ab}.wf .halo{fill:#6d2a86}.wf .ring{fill:none;stroke:#6d2a86;stroke-width:2.4}.wf .ring.cited{fill:none}
 .wf .badge{fill:#fff;stroke:#6d2a86;stroke-width:1.2}.wf .badge.plus{fill:#1b1f24;stroke:#1b1f24}.wf .number.plus{fill:#fff}
 .wf .heading{font-size:17px;font-weight:bold;text-anchor:start}.wf .about,.wf .key,.wf .line{font-size:13px;text-anchor:start;fill:#3d444d}
 .wf .count{font-size:16px;font-weight:bold;text-anchor:start}.wf .corner{font-size:13px;font-style:italic}.wf .face{font-size:12px;font-style:italic;fill:#57606a}.wf .number{font-weight:bold}
@@ -93,8 +93,9 @@ def spot(it: Spot, scene: Scene, live: bool) -> str:
     name, where = outline(shade.shape, *it.at, radius)
     fill, text = tint(shade.fill, 0.4) if "dim" in it.marks else shade.fill, it.label
     inks = f' data-ink="{ink(fill)}"' if live else ""
+    halo, around = outline(shade.shape, *it.at, radius + 4)
     parts = [f'<g {marks_of("at", [*it.marks])} data-v="{it.point}"{inks}><title>{escape(it.title)}</title>',
-             f'<{name} class="spot" fill="{fill}" {where}/>']
+             f'<{halo} class="halo" {around}/>' if "empty" in it.marks else "", f'<{name} class="spot" fill="{fill}" {where}/>']
     if it.value is not None or live:
         hidden = ' style="display:none"' if it.value is None else ""
         fill = fill if it.value is None else colour(it.value, scene.palette)
@@ -128,7 +129,7 @@ def label_place(it: Cell, scene: Scene) -> XY:
     side = 1 if across[0] * (x - it.middle[0]) + across[1] * (y - it.middle[1]) > 0 else -1
     if abs(across[0] * (x - it.middle[0]) + across[1] * (y - it.middle[1])) < 1:
         side = -1 if across[1] > 0 else 1
-    far = scene.radius * 0.55 + 11
+    far = scene.radius + 12 if length < 5 * scene.radius else scene.radius * 0.55 + 11
     return x + side * across[0] / length * far, y + side * across[1] / length * far
 
 
