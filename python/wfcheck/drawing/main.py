@@ -21,8 +21,8 @@ from .subdivision import rules_of
 from .svg import svg
 
 REFUSED, INSTALLED = 2, "wfcheck-draw"
-ABOUT = """Draws a task's complex after some rounds, and what a report or an obstruction says of it. `wfcheck verify` is asked first: what it
-refuses is not drawn. Nothing is proved of a picture."""
+ABOUT = """Draws a task's complex after some rounds, and what a report or an obstruction says of it. `wfcheck verify` is asked
+first: what it refuses is not drawn. Nothing is proved of a picture."""
 
 
 class Picture(NamedTuple):

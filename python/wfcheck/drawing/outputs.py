@@ -107,7 +107,7 @@ def set_places(scene: Scene, listed: Sequence[Simplex], vertices: Sequence[Verte
     scene.spots = [Spot(-1, number, it[0], at[it], tuple_text((it,)), value=it[1]) for number, it in enumerate(vertices)]
     scene.radius = min(MOST_RADIUS, 0.3 * nearest([*at.values()])) if len(at) > 1 else MOST_RADIUS
     middle = sum(x for x, _ in at.values()) / len(at), sum(y for _, y in at.values()) / len(at)
-    scene.cells = [Cell(number, tuple(map(vertices.index, it)), tuple_text(it), middle=middle, marks=set()) for number, it in enumerate(listed)]
+    scene.cells = [Cell(number, tuple(map(vertices.index, it)), tuple_text(it), middle=middle) for number, it in enumerate(listed)]
     scene.size = wide * scale + 2 * MARGIN, low + MARGIN
 
 

@@ -124,8 +124,10 @@ def of_weights(made: Complex, weights: Weights, text: str) -> Side:
              f"<p>The count is {weights.sum} modulo {weights.modulus}, whatever the values. A decision map would have 0.</p>",
              "<h1>Tuples that count</h1>", '<ul aria-label="Tuples that count">', *entries, "</ul>"]
     about = f"Values by chance after {counted(made.rounds, 'round')}."
-    data = {"live": True, "items": [], "about": about, "modulus": weights.modulus, "values": made.rules.values, "choices": choices(made, False),
-            "weights": {f"{numbers[simplex]}:{','.join(map(str, values))}": weight for (simplex, values), weight in weights.tuples.items()},
+    data = {"live": True, "items": [], "about": about, "lines": [], "modulus": weights.modulus, "values": made.rules.values,
+            "choices": choices(made, False),
+            "weights": {f"{numbers[simplex]}:{','.join(map(str, values))}": weight
+                        for (simplex, values), weight in weights.tuples.items()},
             "executions": [[numbers[it.simplex], made.sign(number), *(made.points[view] for view in it.ends)]
                            for number, it in enumerate(made.executions)]}
     return "\n".join(words), data

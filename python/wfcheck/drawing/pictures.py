@@ -8,8 +8,8 @@ from .scene import Scene, TooLarge, chosen_facets, counted, drawn
 from .subdivision import Complex, Rules, many_executions, rules_of, words
 
 KINDS = {1: "vertices", 2: "edges", 3: "triangles", 4: "tetrahedra"}
-# how many triangles a picture may have, and how many executions are looked at
-MOST_TRIANGLES, MOST_EXECUTIONS, MOST_EDGES, MOST_ROUNDS = 9_000, 60_000, 3_000, 8
+# how many triangles a picture may have, how many executions are looked at, and how many edges and steps there may be
+MOST_TRIANGLES, MOST_EXECUTIONS, MOST_EDGES, MOST_STEPS = 9_000, 60_000, 3_000, 3_000
 
 
 class Choice(NamedTuple):
@@ -115,7 +115,9 @@ def decide(scene: Scene, made: Complex, values: Sequence[int]) -> None:
 
 
 def of_refutation(task: Task, rounds: int, argument: Argument, choice: Choice) -> Scene:
-    """A refutation: the executions of its argument with the numbers of their steps, and the points with the values that they are forced to."""
+    """A refutation: the executions of its argument with the numbers of their steps, and the points with the values that are forced."""
+    if len(argument.steps()) > MOST_STEPS:
+        raise TooLarge(f"an argument of {len(argument.steps()):,} steps is too long to draw, and {MOST_STEPS:,} is the most")
     steps: Dict[int, List[int]] = {}
     for step in argument.steps():
         if step.execution is not None:
@@ -175,5 +177,10 @@ def of_obstruction(task: Task, rounds: int, weights: Weights, seed: int, any_val
             cell.marks |= {"lit", "plus" if it.sign > 0 else "minus"}
             cell.label = f"{'+' if it.sign > 0 else '−'}{it.weight}"
     scene.count = count_text(found, weights.modulus)
+    hidden = len(by_execution.keys() - {it.execution for it in scene.cells})
+    if hidden:
+        scene.lines.append(f"{counted(hidden, 'execution')} of the count {'is' if hidden == 1 else 'are'} not drawn.")
+    if any(it.is_copy and it.label for it in scene.cells):
+        scene.lines.append("An execution that is drawn several times counts once.")
     scene.lines.append("Whatever the points decide, the count stays. A decision map would have 0.")
     return scene

@@ -3,7 +3,8 @@
 STYLE = """
 :root{color-scheme:light dark;--paper:#fff;--back:#f2f4f6;--ink:#1b1f24;--soft:#57606a;--line:#d0d7de;--lit:#6d2a86;--glow:#efe0f5}
 *{box-sizing:border-box}
-body{margin:0;background:var(--back);color:var(--ink);font:15px/1.45 Helvetica,Arial,'Liberation Sans','DejaVu Sans',sans-serif}
+body{margin:0;background:var(--back);color:var(--ink)}
+body{font:15px/1.45 Helvetica,Arial,'Liberation Sans','DejaVu Sans',sans-serif}
 main{display:flex;flex-wrap:wrap;gap:20px;padding:20px;align-items:flex-start;max-width:1700px;margin:auto}
 figure{flex:3 1 560px;margin:0;position:sticky;top:20px}
 figure svg{width:100%;height:auto;max-height:calc(100vh - 40px);border:1px solid var(--line);border-radius:8px;background:var(--paper)}
@@ -18,14 +19,19 @@ li button[aria-pressed=true]{background:var(--glow);border-color:var(--lit)}
 button:focus-visible,input:focus-visible{outline:3px solid var(--lit);outline-offset:1px}
 .tools button{padding:7px 14px;border:1px solid var(--soft);border-radius:6px;background:var(--back);color:inherit;font:inherit;cursor:pointer}
 .tools label{margin-left:14px}
-output{display:block;font-size:18px;font-weight:bold;margin:12px 0}kbd{border:1px solid var(--line);border-radius:4px;padding:0 5px;font-size:13px}
+output{display:block;font-size:18px;font-weight:bold;margin:12px 0}
+kbd{border:1px solid var(--line);border-radius:4px;padding:0 5px;font-size:13px}
 .wf [hidden],.wf .ring{display:none}.wf .ring.lit,.wf .ring.cited{display:inline}
-.wf .at:not(.empty)>.halo{display:none}.wf .near>.spot{stroke:var(--lit);stroke-width:4}.wf .cell,.wf .mark{cursor:pointer}
+.wf .at:not(.empty)>.halo{display:none}.wf .near>.spot{stroke:var(--lit);stroke-width:4}
+.wf .from>.spot{stroke:var(--lit);stroke-width:2.6;stroke-dasharray:4 2}.wf .cell,.wf .mark{cursor:pointer}
 @media (prefers-color-scheme:dark){
 :root{--paper:#14181d;--back:#1f252c;--ink:#e8ebee;--soft:#aab3bd;--line:#3a434d;--lit:#d9a5ee;--glow:#43264f}
-figure .wf text{fill:#e8ebee}figure .wf .paper{fill:#14181d}figure .wf .cell{fill:#20272e;stroke:#86919d}figure .wf line.cell{stroke:#c3cad2}
-figure .wf .lit{fill:#4c2b5a;stroke:#d9a5ee}figure .wf line.lit{stroke:#d9a5ee}figure .wf .cited{fill:#33233b;stroke:#b184c4}figure .wf line.cited{stroke:#b184c4}
-figure .wf .ring{fill:none;stroke:#d9a5ee}figure .wf .spot{stroke:#c3cad2}figure .wf .dim .spot{stroke:#6b7580}figure .wf .halo{fill:#d9a5ee}
+figure .wf text{fill:#e8ebee}figure .wf .paper{fill:#14181d}figure .wf .cell{fill:#20272e;stroke:#86919d}
+figure .wf line.cell{stroke:#c3cad2}
+figure .wf .lit{fill:#4c2b5a;stroke:#d9a5ee}figure .wf line.lit{stroke:#d9a5ee}
+figure .wf .cited{fill:#33233b;stroke:#b184c4}figure .wf line.cited{stroke:#b184c4}
+figure .wf .ring{fill:none;stroke:#d9a5ee}figure .wf .spot{stroke:#c3cad2}figure .wf .dim .spot{stroke:#6b7580}
+figure .wf .halo{fill:#d9a5ee}
 figure .wf .badge{fill:#14181d;stroke:#d9a5ee}figure .wf .badge.plus{fill:#e8ebee}figure .wf .number.plus{fill:#14181d}
 figure .wf .about,figure .wf .key,figure .wf .line,figure .wf .face{fill:#aab3bd}}
 """
@@ -91,10 +97,13 @@ SCRIPT = """
   function choose(number) {
     restore();
     chosen = number;
-    var item = data.items[number], lit = {}, cited = {}, near = {};
+    var item = data.items[number], lit = {}, cited = {}, near = {}, from = {};
     item.e.forEach(function (it) { lit[it] = true; });
     item.v.forEach(function (it) { near[it] = true; });
-    item.c.forEach(function (other) { data.items[other].e.forEach(function (it) { cited[it] = true; }); });
+    item.c.forEach(function (other) {
+      data.items[other].e.forEach(function (it) { cited[it] = true; });
+      data.items[other].v.forEach(function (it) { from[it] = true; });
+    });
     cells.forEach(function (it) {
       var is = it.dataset.e in lit, was = !is && it.dataset.e in cited;
       if (it.classList.contains("mark")) {
@@ -108,6 +117,7 @@ SCRIPT = """
     spots.forEach(function (it) {
       it.classList.remove("empty");
       it.classList.toggle("near", it.dataset.v in near);
+      it.classList.toggle("from", it.dataset.v in from && !(it.dataset.v in near));
       if (told) { show(it, told[it.dataset.v] || ""); }
     });
     buttons.forEach(function (it) {
@@ -150,7 +160,10 @@ SCRIPT = """
   // other values at the points: the executions that count, and the count
   function draw() {
     var any = document.getElementById("any").checked;
-    var values = data.choices.map(function (it) { var from = any ? data.values : it; return from[Math.floor(Math.random() * from.length)]; });
+    var values = data.choices.map(function (it) {
+      var from = any ? data.values : it;
+      return from[Math.floor(Math.random() * from.length)];
+    });
     var sums = { "1": 0, "-1": 0 }, counts = {}, many = 0;
     data.executions.forEach(function (it, at) {
       var weight = data.weights[it[0] + ":" + it.slice(2).map(function (point) { return values[point]; }).join(",")];
