@@ -12,7 +12,7 @@ from .subdivision import Complex
 
 HEIGHT = math.sqrt(3) / 2
 # how far apart patches stand that share no place, as a part of a side
-GAP = 0.34
+GAP = 0.42
 # an equilateral triangle, and the middle of the sides of one that is twice as large
 TRIANGLE = [(0.0, 0.0), (1.0, 0.0), (0.5, HEIGHT)]
 NET = [(0.5, HEIGHT), (1.5, HEIGHT), (1.0, 0.0)]
@@ -122,5 +122,5 @@ def layout(facets: Sequence[Simplex]) -> Layout:
     """Where the facets of an input complex are drawn."""
     parts = components(facets)
     groups = [group for part in parts for group in group_of(part)]
-    columns = min(len(groups), 4 if len(groups) != 6 else 3)
+    columns = min(len(groups), 3 if len(groups) == 6 else 4 if len(groups) <= 12 else 8)
     return Layout(side_by_side(groups, columns), len(groups) > len(parts) or any(len(it) == 4 for it in facets))

@@ -11,7 +11,7 @@ from .subdivision import Complex, Rules
 # the lengths of sides in pixels by rounds: of triangles, and of edges of a graph
 SIDES, EDGES = [300.0, 520.0, 820.0, 1180.0], [260.0, 420.0, 720.0, 1080.0]
 # how much shorter sides are if there are so many groups of patches in a row
-SHORTER = {1: 1.0, 2: 0.74, 3: 0.56, 4: 0.46}
+SHORTER, LEAST_PART = {1: 1.0, 2: 0.74, 3: 0.56, 4: 0.46}, 0.38
 MOST_RADIUS, LEAST_RADIUS, READABLE = 12.0, 2.0, 6.5
 MARGIN, ABOVE, TINY = 64.0, 44.0, 1e-6
 
@@ -181,8 +181,8 @@ def scale_of(made: Complex, found: Layout) -> float:
     wide = max(x for it in found.patches for x, _ in it.corners.values())
     if is_graph:
         return side / (1.0 if wide <= 1.01 else 1.5 if wide <= 2.1 else 2.2)
-    columns = min(4, max(1, round((wide + GAP) / (1 + GAP))))
-    return side * SHORTER[columns]
+    columns = max(1, round((wide + GAP) / (1 + GAP)))
+    return side * SHORTER.get(columns, LEAST_PART)
 
 
 def on_sheet(scene: Scene) -> None:
