@@ -1,12 +1,16 @@
 """The texts of pictures: the same bytes each time, well-formed, and not too large."""
 import json
+import math
 import pathlib
 import re
+import tempfile
 import time
 import unittest
+import unittest.mock
 import xml.etree.ElementTree
 
-from wfcheck.drawing import argument, counting, main, outputs, page, palette, pictures, scene, subdivision
+import wfcheck
+from wfcheck.drawing import argument, counting, graphs, labels, main, outputs, page, palette, pictures, scene, subdivision
 from wfcheck.drawing.svg import svg
 from wfcheck.tasks import read
 from wfcheck.views import Unreadable
@@ -130,6 +134,24 @@ class Texts(unittest.TestCase):
         parsed(re.search(r"<svg.*?</svg>", text, re.S)[0])
 
 
+class Labels(unittest.TestCase):
+    """Where labels stand."""
+
+    def test_in_a_triangle(self):
+        corners = [(0.0, 0.0), (300.0, 0.0), (20.0, 40.0)]
+        (x, y), room = labels.roomiest(corners, 10)
+        self.assertGreater(room, 5)
+        self.assertGreater(min(math.dist((x, y), it) for it in corners), 15)
+        parts = [graphs.area([(x, y), corners[at], corners[(at + 1) % 3]]) for at in range(3)]
+        self.assertGreater(min(parts), 0)
+
+    def test_beside_an_edge(self):
+        for one, other in (((0, 0), (40, 0)), ((40, 0), (0, 0))):
+            self.assertEqual(labels.beside_edge(one, other, (100, 0), 12)[0], 20)
+            self.assertLess(labels.beside_edge(one, other, (100, 0), 12)[1], -12)
+            self.assertGreater(labels.beside_edge(one, other, (20, -90), 12)[1], 12)
+
+
 class Sizes(unittest.TestCase):
     """What is drawn in time, and what is not drawn."""
 
@@ -152,6 +174,22 @@ class Sizes(unittest.TestCase):
 
 class Words(unittest.TestCase):
     """The command line."""
+
+    def test_a_file_is_whole_or_as_it_was(self):
+        with tempfile.TemporaryDirectory() as room:
+            file = pathlib.Path(room) / "a.svg"
+            main.keep("one", str(file))
+            self.assertEqual(file.read_text(), "one")
+            with unittest.mock.patch("os.replace", side_effect=OSError("no")):
+                self.assertRaises(OSError, main.keep, "two", str(file))
+            self.assertEqual([(it.name, it.read_text()) for it in file.parent.iterdir()], [("a.svg", "one")])
+
+    def test_a_map_in_a_notebook(self):
+        task = known("no-minority-3")
+        views = {(p, value): value for p in range(3) for value in (0, 1)}
+        found = wfcheck.Map(task, 0, views, (), "")
+        self.assertEqual(found._repr_svg_(), svg(pictures.of_map(task, 0, [0, 1] * 3, pictures.Choice())))
+        self.assertIsNone(wfcheck.Map(known("consensus-3"), 4, {}, (), "")._repr_svg_())
 
     def test_inputs(self):
         self.assertEqual(main.inputs("p2=1,p0=10"), ((0, 10), (2, 1)))

@@ -4,7 +4,7 @@ A vertex of process p that saw k views lies at 1/(2k-1) of the place of p's own 
 an input simplex of at most three vertices with places of its vertices. A picture is made of patches, which may share places."""
 import itertools
 import math
-from typing import Dict, List, NamedTuple, Sequence, Tuple
+from typing import Dict, List, NamedTuple, Sequence
 
 from ..tasks import Simplex
 from .graphs import Vertex, XY, disc, graph
