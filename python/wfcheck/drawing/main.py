@@ -60,7 +60,7 @@ def words() -> argparse.ArgumentParser:
     found.add_argument("--rounds", type=number, metavar="R", help="rounds of the complex; with a report it has to be about as many")
     found.add_argument("--outputs", action="store_true", help="draw the output complex, and light what --input allows")
     found.add_argument("--input", type=inputs, metavar="p0=0,..", help="draw the input facets with these inputs alone")
-    found.add_argument("--all", action="store_true", help="of a refutation draw all input facets, not only those that it needs")
+    found.add_argument("--all", action="store_true", help="draw all input facets, not only those that a refutation or an obstruction needs")
     found.add_argument("--faces", action="store_true", help="draw executions of at most two processes alone")
     found.add_argument("--seed", type=number, default=1, metavar="N", help="of an obstruction: which values the points have by chance")
     found.add_argument("--any", action="store_true", help="of an obstruction: also values that the inputs forbid")

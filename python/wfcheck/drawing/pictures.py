@@ -163,7 +163,7 @@ def numbers_text(numbers: Sequence[int]) -> str:
 
 def of_obstruction(task: Task, rounds: int, weights: Weights, seed: int, any_value: bool, choice: Choice) -> Scene:
     """An obstruction, counted on a choice of values after some rounds."""
-    part = part_of(task, rounds, choice, counts=True)
+    part = part_of(task, rounds, choice, weights.simplices(), counts=True)
     scene = part.scene("no decision map after any number of rounds", f"Values by chance after {counted(rounds, 'round')} (seed {seed}).")
     values = drawn_values(choices(part.made, any_value), seed)
     found = count(part.made, weights, values)

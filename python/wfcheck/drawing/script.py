@@ -1,23 +1,27 @@
 """The style and the script of a page: they need nothing from elsewhere, so the page works from a file."""
 
 STYLE = """
-:root{color-scheme:light dark;--paper:#fff;--back:#f2f4f6;--ink:#1b1f24;--soft:#57606a;--line:#d0d7de;--lit:#6d2a86;--glow:#efe0f5}
+:root{color-scheme:light dark;--paper:#fff;--back:#f2f4f6;--ink:#1b1f24;--soft:#57606a;--line:#d0d7de;--lit:#6d2a86;
+--glow:#efe0f5}
 *{box-sizing:border-box}
 body{margin:0;background:var(--back);color:var(--ink)}
 body{font:15px/1.45 Helvetica,Arial,'Liberation Sans','DejaVu Sans',sans-serif}
 main{display:flex;flex-wrap:wrap;gap:20px;padding:20px;align-items:flex-start;max-width:1700px;margin:auto}
 figure{flex:3 1 560px;margin:0;position:sticky;top:20px}
-figure svg{width:100%;height:auto;max-height:calc(100vh - 40px);border:1px solid var(--line);border-radius:8px;background:var(--paper)}
+figure svg{width:100%;height:auto;max-height:calc(100vh - 40px);border:1px solid var(--line);border-radius:8px;
+background:var(--paper)}
 section{flex:2 1 360px;background:var(--paper);border:1px solid var(--line);border-radius:8px;padding:6px 18px 18px}
 h1{font-size:17px;margin:12px 0 6px}p{margin:8px 0;color:var(--soft)}
 ol,ul{list-style:none;margin:8px 0;padding:0}
 li>div{padding:0 10px}li>span{display:block;padding:5px 10px;color:var(--soft);font-weight:bold}
-li button{display:block;width:100%;text-align:left;padding:5px 10px;border:1px solid transparent;border-radius:6px;background:none;color:inherit;
+li button{display:block;width:100%;text-align:left;padding:5px 10px;border:1px solid transparent;border-radius:6px;
+background:none;color:inherit;
 font:inherit;cursor:pointer}
 li button:hover{background:var(--back)}li button.cited{border:1px dashed var(--lit)}
 li button[aria-pressed=true]{background:var(--glow);border-color:var(--lit)}
 button:focus-visible,input:focus-visible{outline:3px solid var(--lit);outline-offset:1px}
-.tools button{padding:7px 14px;border:1px solid var(--soft);border-radius:6px;background:var(--back);color:inherit;font:inherit;cursor:pointer}
+.tools button{padding:7px 14px;border:1px solid var(--soft);border-radius:6px;background:var(--back);color:inherit;
+font:inherit;cursor:pointer}
 .tools label{margin-left:14px}
 output{display:block;font-size:18px;font-weight:bold;margin:12px 0}
 kbd{border:1px solid var(--line);border-radius:4px;padding:0 5px;font-size:13px}
@@ -32,7 +36,8 @@ figure .wf .lit{fill:#4c2b5a;stroke:#d9a5ee}figure .wf line.lit{stroke:#d9a5ee}
 figure .wf .cited{fill:#33233b;stroke:#b184c4}figure .wf line.cited{stroke:#b184c4}
 figure .wf .ring{fill:none;stroke:#d9a5ee}figure .wf .spot{stroke:#c3cad2}figure .wf .dim .spot{stroke:#6b7580}
 figure .wf .halo{fill:#d9a5ee}
-figure .wf .badge{fill:#14181d;stroke:#d9a5ee}figure .wf .badge.plus{fill:#e8ebee}figure .wf .number.plus{fill:#14181d}
+figure .wf .corner{stroke:#14181d}figure .wf .badge{fill:#14181d;stroke:#d9a5ee}figure .wf .badge.plus{fill:#e8ebee}
+figure .wf .number.plus{fill:#14181d}
 figure .wf .about,figure .wf .key,figure .wf .line,figure .wf .face{fill:#aab3bd}}
 """
 

@@ -19,7 +19,8 @@ STYLE = """
 .wf .number.plus{fill:#fff}
 .wf .heading{font-size:17px;font-weight:bold;text-anchor:start}
 .wf .about,.wf .key,.wf .line{font-size:13px;text-anchor:start;fill:#3d444d}
-.wf .count{font-size:16px;font-weight:bold;text-anchor:start}.wf .corner{font-size:13px;font-style:italic}
+.wf .count{font-size:16px;font-weight:bold;text-anchor:start}
+.wf .corner{font-size:13px;font-style:italic;paint-order:stroke;stroke:#fff;stroke-width:3px}
 .wf .face{font-size:12px;font-style:italic;fill:#57606a}.wf .number{font-weight:bold}
 """.replace("\n", "")
 TOP, ROW, PAD = 64.0, 21.0, 24.0
