@@ -1,6 +1,6 @@
 """The argument that `wfcheck explain` writes of a refutation, as steps: what each takes, where, and which steps it cites."""
 import re
-from typing import Dict, List, NamedTuple, Optional, Tuple
+from typing import Dict, List, NamedTuple, Optional, Tuple, Union
 
 from ..views import Unreadable
 
@@ -39,10 +39,13 @@ class Line(NamedTuple):
     empty: Optional[int]
 
 
+Item = Union[Step, Line]
+
+
 class Argument(NamedTuple):
     """An argument: its title, its steps and other lines in their order, and its cases."""
     title: str
-    items: List[object]
+    items: List[Item]
     cases: List[Case]
 
     def steps(self) -> List[Step]:
@@ -59,7 +62,7 @@ def argument_of(text: str) -> Argument:
     lines = text.split("\n")
     if "Argument" not in lines:
         raise Unreadable("this is no argument of `wfcheck explain`")
-    items: List[object] = []
+    items: List[Item] = []
     cases, inner = [Case(-1, None, None, 0)], [0]
     for line in lines[lines.index("Argument") + 1:]:
         if line.startswith("In all:"):

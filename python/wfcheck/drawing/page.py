@@ -4,7 +4,7 @@ import json
 from html import escape
 from typing import Any, Dict, List, Sequence, Tuple
 
-from .argument import Argument, Line, Step
+from .argument import Argument, Step
 from .counting import Weights, choices
 from .outputs import allowed_simplices, lit_by, pinched, simplex_text
 from .palette import colour, ink
@@ -54,12 +54,12 @@ def of_argument(argument: Argument) -> Side:
     entries: List[str] = []
     items: List[Dict[str, Any]] = []
     for it in argument.items:
-        depth = argument.cases[it.case].depth if isinstance(it, (Line, Step)) else 0
+        depth = argument.cases[it.case].depth
         if isinstance(it, Step):
             entries.append(choice(len(items), f"{it.number}. {it.text}", depth))
             items.append(item([] if it.execution is None else [it.execution], it.points, k=it.case, about=it.point, left=it.left,
                               c=[places[number] for number in it.cites if number in places]))
-        elif isinstance(it, Line):
+        else:
             if items and items[-1]["about"] == it.empty:
                 items[-1]["left"] = "×"
             entries.append(f'<li style="margin-left:{min(depth, 12) * 18}px"><span>{escape(it.text)}</span></li>')
@@ -122,7 +122,7 @@ def of_weights(made: Complex, weights: Weights, text: str) -> Side:
              '<label><input type="checkbox" id="any"> also values that the inputs forbid</label></div>',
              f'<output id="count" aria-live="polite">{escape(text)}</output>',
              f"<p>The count is {weights.sum} modulo {weights.modulus}, whatever the values. A decision map would have 0.</p>",
-             "<h1>Tuples that count</h1>", '<ul aria-label="Tuples that count">', *entries, "</ul>"]
+             "<h2>Tuples that count</h2>", '<ul aria-label="Tuples that count">', *entries, "</ul>"]
     about = f"Values by chance after {counted(made.rounds, 'round')}."
     data = {"live": True, "items": [], "about": about, "lines": [], "modulus": weights.modulus, "values": made.rules.values,
             "choices": choices(made, False),

@@ -11,7 +11,7 @@ figure{flex:3 1 560px;margin:0;position:sticky;top:20px}
 figure svg{width:100%;height:auto;max-height:calc(100vh - 40px);border:1px solid var(--line);border-radius:8px;
 background:var(--paper)}
 section{flex:2 1 360px;background:var(--paper);border:1px solid var(--line);border-radius:8px;padding:6px 18px 18px}
-h1{font-size:17px;margin:12px 0 6px}p{margin:8px 0;color:var(--soft)}
+h1,h2{font-size:17px;margin:12px 0 6px}p{margin:8px 0;color:var(--soft)}
 ol,ul{list-style:none;margin:8px 0;padding:0}
 li>div{padding:0 10px}li>span{display:block;padding:5px 10px;color:var(--soft);font-weight:bold}
 li button{display:block;width:100%;text-align:left;padding:5px 10px;border:1px solid transparent;border-radius:6px;
