@@ -71,8 +71,16 @@ class Arguments(unittest.TestCase):
         self.assertEqual([it.case for it in found.steps()], [0, 1, 2, 2, 3])
         self.assertEqual([it.left for it in found.steps()], ["0 or 1", "1", "0", "2 or 3", None])
 
+    def test_cases_in_cases_beyond_the_indentation(self):
+        lines = [line for at in range(15) for line in (f"{at + 1}. v{at} is 0 or 1.", f"Case v{at} = 0")]
+        lines += [line for at in reversed(range(15)) for line in ("v99 has no value left.", f"Case v{at} = 1")]
+        told = "\n".join(f"{' ' * 26}{it}" for it in [*lines, "v99 has no value left."])
+        found = argument.argument_of(f"No map.\n\nArgument\n{told}\nIn all: 15 steps.\n")
+        self.assertEqual([it.outer for it in found.cases], [*range(-1, 15), *range(14, -1, -1)])
+        self.assertEqual([it.depth for it in found.cases], [*range(16), *range(15, 0, -1)])
+
     def test_other_texts(self):
-        for text in ("", "accepted none\n", THREE.replace("  2. v33", "  2. w33")):
+        for text in ("", CASES.replace("Case v0 = 1", "Case v7 = 1"), "accepted none\n", THREE.replace("  2. v33", "  2. w33")):
             self.assertRaises(Unreadable, argument.argument_of, text)
 
 

@@ -1,10 +1,10 @@
 """The argument that `wfcheck explain` writes of a refutation, as steps: what each takes, where, and which steps it cites."""
 import re
-from typing import Dict, List, NamedTuple, Optional, Tuple, Union
+from typing import Dict, List, NamedTuple, Optional, Sequence, Tuple, Union
 
 from ..views import Unreadable
 
-CASE = re.compile(r"( *)Case v(\d+) = (\d+)", re.A)
+CASE = re.compile(r" *Case v(\d+) = (\d+)", re.A)
 EMPTY = re.compile(r" *v(\d+) has no value left\.", re.A)
 LEFT = re.compile(r" So v\d+ is ([^.]*)\.$", re.A)
 CITED = re.compile(r"\[(\d+)\]", re.A)
@@ -69,36 +69,44 @@ def argument_of(text: str) -> Argument:
             break
         case, empty = CASE.fullmatch(line), EMPTY.fullmatch(line)
         if case:
-            # the cases of one branching are as deep, and lie in the case of the step above the first
-            depth = len(case[1]) // 2
-            while cases[inner[-1]].depth >= depth:
-                inner.pop()
-            cases.append(Case(inner[-1], int(case[2]), int(case[3]), depth))
+            inner = about(inner, cases, items, int(case[1]))
+            cases.append(Case(inner[-1], int(case[1]), int(case[2]), len(inner)))
             inner.append(len(cases) - 1)
-            items.append(Line(line.strip(), inner[-1], None))
-        elif empty:
-            items.append(Line(line.strip(), inner[-1], int(empty[1])))
+        if case or empty:
+            items.append(Line(line.strip(), inner[-1], int(empty[1]) if empty else None))
         else:
             items.append(step_of(line, inner[-1]))
     return Argument(lines[0], items, cases)
+
+
+def about(inner: List[int], cases: Sequence[Case], items: Sequence[Item], point: int) -> List[int]:
+    """The cases about a new one of a point. Behind a step that branches it lies in the last case; else it follows the last case of its point.
+
+    The indentation does not say so, since it ends at twelve levels."""
+    last = items[-1] if items else None
+    if isinstance(last, Step) and last.execution is None:
+        return inner
+    same = [at for at, it in enumerate(inner) if cases[it].point == point]
+    if not same:
+        raise Unreadable(f"a case of v{point} stands where no step branches")
+    return inner[:same[-1]]
 
 
 def step_of(line: str, case: int) -> Step:
     """The step that a line is."""
     number, _, rest = line.strip().partition(". ")
     head, _, told = rest.partition(": in execution ")
-    about = REASON.match(head)
-    if not number.isdigit() or not about:
+    first = REASON.match(head)
+    if not number.isdigit() or not first:
         raise Unreadable(f"{line.strip()[:40]!r} is no step of an argument")
     left = LEFT.search(line)
     execution = told.partition(",")[0]
     supposed = head.partition(" is ")[2].rstrip(".") if not told else None
     points = tuple(dict.fromkeys(int(it) for it in REASON.findall(rest)))
     cites = tuple(dict.fromkeys(int(it) for it in CITED.findall(told)))
-    return Step(int(number), rest, int(about[1]), left[1] if left else supposed, int(execution) if told else None, points, cites, case)
+    return Step(int(number), rest, int(first[1]), left[1] if left else supposed, int(execution) if told else None, points, cites, case)
 
 
 def values_left(argument: Argument) -> Dict[int, str]:
     """What is left at each point of which the argument says so outside of all cases, at the last."""
-    found = {it.point: it.left for it in argument.steps() if it.case == 0 and it.left is not None}
-    return found
+    return {it.point: it.left for it in argument.steps() if it.case == 0 and it.left is not None}
