@@ -8,6 +8,7 @@ CASE = re.compile(r" *Case v(\d+) = (\d+)", re.A)
 EMPTY = re.compile(r" *v(\d+) has no value left\.", re.A)
 LEFT = re.compile(r" So v\d+ is ([^.]*)\.$", re.A)
 CITED = re.compile(r"\[(\d+)\]", re.A)
+MOST_SHOWN = 5
 REASON = re.compile(r"\bv(\d+)\b", re.A)
 
 
@@ -110,3 +111,9 @@ def step_of(line: str, case: int) -> Step:
 def values_left(argument: Argument) -> Dict[int, str]:
     """What is left at each point of which the argument says so outside of all cases, at the last."""
     return {it.point: it.left for it in argument.steps() if it.case == 0 and it.left is not None}
+
+
+def shown(left: str) -> str:
+    """What is left at a point as it fits into a spot: one value, two or three as 0/1, a range as 0–4, or nothing."""
+    told = left.replace(" to ", "–").replace(" or ", "/").replace(", ", "/")
+    return told if len(told) <= MOST_SHOWN and " " not in told else ""

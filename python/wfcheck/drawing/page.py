@@ -4,7 +4,7 @@ import json
 from html import escape
 from typing import Any, Dict, List, Sequence, Tuple
 
-from .argument import Argument, Step
+from .argument import Argument, Step, shown
 from .counting import Weights, choices
 from .outputs import allowed_simplices, lit_by, pinched, simplex_text
 from .palette import colour, ink
@@ -57,7 +57,8 @@ def of_argument(argument: Argument) -> Side:
         depth = argument.cases[it.case].depth
         if isinstance(it, Step):
             entries.append(choice(len(items), f"{it.number}. {it.text}", depth))
-            items.append(item([] if it.execution is None else [it.execution], it.points, k=it.case, about=it.point, left=it.left,
+            items.append(item([] if it.execution is None else [it.execution], it.points, k=it.case, about=it.point,
+                              left=None if it.left is None else shown(it.left),
                               c=[places[number] for number in it.cites if number in places]))
         else:
             if items and items[-1]["about"] == it.empty:

@@ -2,7 +2,7 @@
 from typing import Dict, List, NamedTuple, Optional, Sequence
 
 from ..tasks import Simplex, Task
-from .argument import Argument, values_left
+from .argument import Argument, shown, values_left
 from .counting import Weights, choices, count, count_text, drawn_values
 from .scene import Scene, TooLarge, chosen_facets, counted, drawn
 from .subdivision import Complex, Rules, many_executions, rules_of, words
@@ -136,8 +136,8 @@ def of_refutation(task: Task, rounds: int, argument: Argument, choice: Choice) -
             spot.marks, spot.label = {"empty"}, "×"
         elif forced.get(spot.point, "").isdigit():
             spot.value = int(forced[spot.point])
-        elif len(forced.get(spot.point, "")) == len("0 or 1"):
-            spot.label = forced[spot.point].replace(" or ", "/")
+        elif spot.point in forced:
+            spot.label = shown(forced[spot.point])
         elif spot.point not in used:
             spot.marks = {"dim"}
     scene.values = sorted({it.value for it in scene.spots if it.value is not None})

@@ -50,7 +50,8 @@ SCRIPT = """
   var kept = cells.concat(spots).map(function (it) { return [it, it.getAttribute("class"), it.hasAttribute("hidden")]; });
   function looks(spot) {
     var value = spot.querySelector(".value"), text = spot.querySelector("text");
-    return [value.style.display, value.getAttribute("fill"), text ? text.textContent : "", text ? text.getAttribute("style") : ""];
+    var look = [value.style.display, value.getAttribute("fill")];
+    return text ? look.concat([text.textContent, text.getAttribute("style"), text.getAttribute("font-size"), text.getAttribute("y")]) : look;
   }
   var shown = data.live ? spots.map(looks) : [];
   var chosen = -1;
@@ -61,8 +62,18 @@ SCRIPT = """
     value.style.display = colours ? "" : "none";
     if (colours) { value.setAttribute("fill", colours[0]); }
     if (text) {
+      var size = spot.dataset.r * (told === "\u00d7" ? 1.7 : [0.62, 1.15, 1, 0.84][told.length] || 0.62);
       text.textContent = told;
+      text.setAttribute("font-size", size);
+      text.setAttribute("y", Number(spot.dataset.y) + 0.36 * size);
       text.setAttribute("style", "fill:" + (colours ? colours[1] : spot.dataset.ink));
+    }
+  }
+
+  // what is lit stands above its neighbours, and edges above triangles
+  function raise(it) {
+    if (it.classList.contains("cell") && it.classList.contains("lit")) {
+      it.parentNode.insertBefore(it, it.tagName === "path" ? it.parentNode.querySelector("line") : null);
     }
   }
 
@@ -76,7 +87,12 @@ SCRIPT = """
       var value = spots[at].querySelector(".value"), text = spots[at].querySelector("text");
       value.style.display = it[0];
       value.setAttribute("fill", it[1]);
-      if (text) { text.textContent = it[2]; text.setAttribute("style", it[3]); }
+      if (text) {
+        text.textContent = it[2];
+        text.setAttribute("style", it[3]);
+        text.setAttribute("font-size", it[4]);
+        text.setAttribute("y", it[5]);
+      }
     });
     buttons.forEach(function (it) { it.setAttribute("aria-pressed", "false"); it.classList.remove("cited"); });
   }
@@ -94,7 +110,7 @@ SCRIPT = """
     data.items.slice(0, number + 1).forEach(function (it) {
       if (!inside[it.k]) { return; }
       enter(it.k);
-      if (it.left !== null) { found[it.about] = it.left.replace(" or ", "/"); }
+      if (it.left !== null) { found[it.about] = it.left; }
     });
     return found;
   }
@@ -118,6 +134,7 @@ SCRIPT = """
         it.classList.toggle("cited", was);
       }
     });
+    cells.forEach(raise);
     var told = data.cases ? known(number) : null;
     spots.forEach(function (it) {
       it.classList.remove("empty");
@@ -183,6 +200,7 @@ SCRIPT = """
         if (found) { mark(it, found); }
       }
     });
+    cells.forEach(raise);
     spots.forEach(function (it) { show(it, String(values[it.dataset.v])); });
     var plus = sums["1"], minus = sums["-1"], rest = ((plus - minus) % data.modulus + data.modulus) % data.modulus;
     document.getElementById("count").textContent =

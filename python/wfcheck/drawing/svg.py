@@ -97,7 +97,7 @@ def spot(it: Spot, scene: Scene, live: bool) -> str:
     radius = scene.radius * (1.15 if it.value is not None else 1.0)
     name, where = outline(shade.shape, *it.at, radius)
     fill, text = tint(shade.fill, 0.4) if "dim" in it.marks else shade.fill, it.label
-    inks = f' data-ink="{ink(fill)}"' if live else ""
+    inks = f' data-ink="{ink(fill)}" data-y="{short(it.at[1])}" data-r="{short(radius)}"' if live else ""
     halo, around = outline(shade.shape, *it.at, radius + 4)
     parts = [f'<g {marks_of("at", [*it.marks])} data-v="{it.point}"{inks}><title>{escape(it.title)}</title>',
              f'<{halo} class="halo" {around}/>' if "empty" in it.marks else "", f'<{name} class="spot" fill="{fill}" {where}/>']
