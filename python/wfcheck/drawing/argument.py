@@ -81,9 +81,8 @@ def argument_of(text: str) -> Argument:
 
 
 def about(inner: List[int], cases: Sequence[Case], items: Sequence[Item], point: int) -> List[int]:
-    """The cases about a new one of a point. Behind a step that branches it lies in the last case; else it follows the last case of its point.
-
-    The indentation does not say so, since it ends at twelve levels."""
+    """The cases about a new one of a point. Behind a step that branches it lies in the last case, else it follows the last case of its
+    point. The indentation does not say so, since it ends at twelve levels."""
     last = items[-1] if items else None
     if isinstance(last, Step) and last.execution is None:
         return inner

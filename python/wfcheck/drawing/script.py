@@ -51,7 +51,8 @@ SCRIPT = """
   function looks(spot) {
     var value = spot.querySelector(".value"), text = spot.querySelector("text");
     var look = [value.style.display, value.getAttribute("fill")];
-    return text ? look.concat([text.textContent, text.getAttribute("style"), text.getAttribute("font-size"), text.getAttribute("y")]) : look;
+    if (!text) { return look; }
+    return look.concat([text.textContent, text.getAttribute("style"), text.getAttribute("font-size"), text.getAttribute("y")]);
   }
   var shown = data.live ? spots.map(looks) : [];
   var chosen = -1;
