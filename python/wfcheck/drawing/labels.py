@@ -5,19 +5,19 @@ from typing import Sequence, Tuple
 from .graphs import XY, area
 from .scene import READABLE
 
-# the sizes of labels beside large and small spots, and the least
-LARGE, SMALL, LEAST = 11.0, 9.0, 7.0
+# the sizes of labels beside large and small spots, and the least in a triangle, also if many are crowded
+LARGE, SMALL, LEAST, LEAST_CROWDED = 11.0, 9.0, 7.0, 5.5
 FINE = 12
 # places in a triangle by their parts of the corners, its middle first
 SHARES = [(1 / 3, 1 / 3, 1 / 3)] + [(a / FINE, b / FINE, (FINE - a - b) / FINE) for a in range(1, FINE) for b in range(1, FINE - a)]
 
 
-def label_place(places: Sequence[XY], middle: XY, radius: float) -> Tuple[XY, float]:
+def label_place(places: Sequence[XY], middle: XY, radius: float, crowded: bool) -> Tuple[XY, float]:
     """The place of a label and its size, for an execution between spots at these places: in a triangle, else beside it."""
-    size = LARGE if radius > 6 else SMALL
+    size, least = LARGE if radius >= READABLE else SMALL, LEAST_CROWDED if crowded else LEAST
     if len(places) == 3:
         where, room = roomiest(places, radius)
-        return where, max(LEAST, min(size, room))
+        return where, max(least, min(size, room))
     if len(places) == 2:
         return beside_edge(places[0], places[1], middle, radius), size
     (x, y), far = places[0], radius * 0.8 + 18

@@ -14,6 +14,7 @@ SIDES, EDGES = [300.0, 520.0, 820.0, 1180.0], [260.0, 420.0, 720.0, 1080.0]
 SHORTER, LEAST_PART = {1: 1.0, 2: 0.74, 3: 0.56, 4: 0.46}, 0.38
 MOST_RADIUS, LEAST_RADIUS, READABLE = 12.0, 2.0, 6.5
 MARGIN, ABOVE, TINY = 64.0, 44.0, 1e-6
+MANY_MARKS = 60
 
 
 class TooLarge(Exception):
@@ -76,6 +77,11 @@ class Scene:
     def is_readable(self) -> bool:
         """Whether the spots are large enough for a label."""
         return self.radius >= READABLE
+
+    @property
+    def is_crowded(self) -> bool:
+        """Whether so many small executions are marked that marks have to be thin."""
+        return not self.is_readable and sum("lit" in it.marks for it in self.cells) > MANY_MARKS
 
 
 def counted(number: int, noun: str) -> str:

@@ -22,6 +22,8 @@ STYLE = """
 .wf .count{font-size:16px;font-weight:bold;text-anchor:start}
 .wf .corner{font-size:13px;font-style:italic;paint-order:stroke;stroke:#fff;stroke-width:3px}
 .wf .face{font-size:12px;font-style:italic;fill:#57606a}.wf .number{font-weight:bold}
+.wf.fine .lit{stroke-width:1.1}.wf.fine line.lit{stroke-width:2.4}.wf.fine .cited{stroke-width:.9;stroke-dasharray:3 2}
+.wf.fine .badge{stroke-width:.6}
 """.replace("\n", "")
 TOP, ROW, PAD = 64.0, 21.0, 24.0
 LEAST_WIDTH = 430.0
@@ -35,8 +37,9 @@ def svg(scene: Scene, live: bool = False) -> str:
     left = (width - scene.size[0]) / 2
     view = f"0 0 {short(width)} {short(height)}"
     told = " ".join(filter(None, [scene.about, scene.count, *scene.lines]))
+    kind = "wf fine" if scene.is_crowded else "wf"
     parts = [
-        f'<svg xmlns="http://www.w3.org/2000/svg" class="wf" viewBox="{view}" width="{short(width)}" height="{short(height)}" role="img" '
+        f'<svg xmlns="http://www.w3.org/2000/svg" class="{kind}" viewBox="{view}" width="{short(width)}" height="{short(height)}" role="img" '
         f'aria-label={quoteattr(f"{scene.heading}. {told}")}>',
         f"<style>{STYLE}</style>",
         f'<rect class="paper" width="{short(width)}" height="{short(height)}" rx="6"/>',
@@ -62,7 +65,8 @@ def drawing(scene: Scene, live: bool) -> List[str]:
     parts = [f'<g stroke-width="{thin}">', *(cell(it, scene) for it in order if len(it.spots) > 1), "</g>"]
     parts += [f'<g stroke-width="{1.1 if scene.radius > 5 else 0.5}">', *(spot(it, scene, live) for it in scene.spots), "</g>"]
     parts += [ring(it, scene) for it in order if len(it.spots) == 1 and (it.marks or live and scene.count)]
-    parts += [label(it, scene) for it in scene.cells if it.label or live and scene.count]
+    crowded = scene.is_crowded
+    parts += [label(it, scene, crowded) for it in scene.cells if it.label or live and scene.count]
     return parts + [note(it) for it in scene.notes]
 
 
@@ -119,9 +123,9 @@ def inside(it: Spot, text: str, radius: float, fill: str) -> str:
     return f'<text x="{short(it.at[0])}" y="{short(y)}" font-size="{short(size)}" style="fill:{fill}">{escape(text)}</text>'
 
 
-def label(it: Cell, scene: Scene) -> str:
+def label(it: Cell, scene: Scene, crowded: bool) -> str:
     """The label of a cell, on a badge."""
-    (x, y), size = label_place([scene.spots[at].at for at in it.spots], it.middle, scene.radius)
+    (x, y), size = label_place([scene.spots[at].at for at in it.spots], it.middle, scene.radius, crowded)
     wide = max(size * 1.55, size * (0.62 * len(it.label) + 0.7))
     sign = [mark for mark in it.marks if mark in ("plus", "minus")]
     hidden = "" if it.label else ' hidden=""'
