@@ -39,8 +39,8 @@ def svg(scene: Scene, live: bool = False) -> str:
     told = " ".join(filter(None, [scene.about, scene.count, *scene.lines]))
     kind = "wf fine" if scene.is_crowded else "wf"
     parts = [
-        f'<svg xmlns="http://www.w3.org/2000/svg" class="{kind}" viewBox="{view}" width="{short(width)}" height="{short(height)}" role="img" '
-        f'aria-label={quoteattr(f"{scene.heading}. {told}")}>',
+        f'<svg xmlns="http://www.w3.org/2000/svg" class="{kind}" viewBox="{view}" width="{short(width)}" height="{short(height)}" '
+        f'role="img" aria-label={quoteattr(f"{scene.heading}. {told}")}>',
         f"<style>{STYLE}</style>",
         f'<rect class="paper" width="{short(width)}" height="{short(height)}" rx="6"/>',
         f'<text class="heading" x="{short(PAD)}" y="32">{escape(scene.heading)}</text>',
