@@ -141,6 +141,12 @@ class Texts(unittest.TestCase):
         self.assertEqual(set(re.findall(r"https?://[^\"' ]+", text)), {"http://www.w3.org/2000/svg"})
         parsed(re.search(r"<svg.*?</svg>", text, re.S)[0])
 
+    def test_each_execution_of_a_page_can_be_lit(self):
+        task = known("consensus-3")
+        drawn = pictures.of_complex(task, 1, pictures.Choice())
+        text = page.page(drawn, page.of_participants(drawn, subdivision.Complex(subdivision.rules_of(task), 1)))
+        self.assertEqual(sorted(map(int, re.findall(r'data-e="(\d+)"', text))), [*range(25)])
+
 
 class Labels(unittest.TestCase):
     """Where labels stand."""

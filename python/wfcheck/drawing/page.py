@@ -31,7 +31,7 @@ def page(scene: Scene, side: Side) -> str:
         '<meta name="viewport" content="width=device-width, initial-scale=1">', '<meta name="color-scheme" content="light dark">',
         f'<meta http-equiv="Content-Security-Policy" content="{POLICY}">',
         f"<title>{escape(scene.heading)}</title>", f"<style>{STYLE}</style>", "</head>", "<body>", "<main>",
-        "<figure>", svg(scene, data["live"]), "</figure>",
+        "<figure>", svg(scene, True, data["live"]), "</figure>",
         f'<section aria-label="{escape(scene.heading)}">', f"<h1>{escape(scene.heading)}</h1>", words, "</section>", "</main>",
         f'<script type="application/json" id="data">{told}</script>', f"<script>{SCRIPT}</script>", "</body>", "</html>", "",
     ])

@@ -29,8 +29,8 @@ TOP, ROW, PAD = 64.0, 21.0, 24.0
 LEAST_WIDTH = 430.0
 
 
-def svg(scene: Scene, live: bool = False) -> str:
-    """The scene as the text of an SVG file. A live one also has what a script may show."""
+def svg(scene: Scene, paged: bool = False, live: bool = False) -> str:
+    """The scene as the text of an SVG file. On a page it has rings that a script may light, and a live one has all that may be shown."""
     legend, bottom = legend_of(scene, live)
     width = max(scene.size[0], LEAST_WIDTH, *(text_width(it) + 2 * PAD for it in [scene.heading + "   ", scene.about, *scene.lines]))
     height = TOP + scene.size[1] + bottom
@@ -46,7 +46,7 @@ def svg(scene: Scene, live: bool = False) -> str:
         f'<text class="heading" x="{short(PAD)}" y="32">{escape(scene.heading)}</text>',
         f'<text class="about" x="{short(PAD)}" y="53">{escape(scene.about)}</text>',
         f'<g transform="translate({short(left)} {short(TOP)})">',
-        *drawing(scene, live),
+        *drawing(scene, paged, live),
         "</g>",
         f'<g transform="translate({short(PAD)} {short(TOP + scene.size[1])})">', *legend, "</g>", "</svg>", "",
     ]
@@ -58,13 +58,13 @@ def text_width(text: str) -> float:
     return 6.5 * len(text)
 
 
-def drawing(scene: Scene, live: bool) -> List[str]:
+def drawing(scene: Scene, paged: bool, live: bool) -> List[str]:
     """The cells by size, marked ones above the others, then the spots, and the labels above all."""
     thin = 1.1 if scene.radius > 9 else 0.9 if scene.radius > 5 else 0.45
     order = sorted(scene.cells, key=lambda it: (len(it.spots) < 3, bool(it.marks & {"lit"})))
     parts = [f'<g stroke-width="{thin}">', *(cell(it, scene) for it in order if len(it.spots) > 1), "</g>"]
     parts += [f'<g stroke-width="{1.1 if scene.radius > 5 else 0.5}">', *(spot(it, scene, live) for it in scene.spots), "</g>"]
-    parts += [ring(it, scene) for it in order if len(it.spots) == 1 and (it.marks or live and scene.count)]
+    parts += [ring(it, scene) for it in order if len(it.spots) == 1 and (it.marks or paged)]
     crowded = scene.is_crowded
     parts += [label(it, scene, crowded) for it in scene.cells if it.label or live and scene.count]
     return parts + [note(it) for it in scene.notes]
