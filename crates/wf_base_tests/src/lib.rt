@@ -1,6 +1,6 @@
 //! Tests of the public calls of the crates that the engines stand on, but for the search: texts,
-//! simplices, tasks, views, reports and obstructions with their checkers, the finder, questions of
-//! branches, and the checkers of solvers' proofs.
+//! simplices, tasks, views, reports, obstructions and balances with their checkers, the finder,
+//! questions of branches, and the checkers of solvers' proofs.
 //!
 //! They stand in a crate of their own since a crate with tests is proved twice, with them and
 //! without; here the tests alone are proved, over the contracts of the crates below. What they add
@@ -12,6 +12,8 @@
 
 #[cfg(test)]
 mod asking;
+#[cfg(test)]
+mod balances;
 #[cfg(test)]
 mod branches;
 #[cfg(test)]

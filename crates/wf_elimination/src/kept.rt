@@ -46,9 +46,9 @@ pub struct Contradiction {
     pub constant: u32,
 }
 
-/// A multiplier of an equation that came in.
+/// How often an equation that came in counts.
 #[derive(Clone, Copy)]
-pub struct Multiplier {
+pub struct Multiple {
     /// The number under which the equation came in.
     pub equation: u32,
     /// How often it counts.

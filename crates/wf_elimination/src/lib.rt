@@ -8,7 +8,7 @@
 //!
 //! - [`Ring`], [`prime_powers`]: arithmetic modulo a prime power, and those of a modulus.
 //! - [`Elimination`]: takes equations in.
-//! - [`Contradiction`], [`Multiplier`]: an equation that contradicts those before it, and how often
+//! - [`Contradiction`], [`Multiple`]: an equation that contradicts those before it, and how often
 //!   an equation counts in what shows it.
 //! - [`EliminationFault`]: why it gave up.
 //! - [`LEVELS`], [`MOST_UNKNOWNS`], [`MOST_ENTRIES`], [`MOST_STEPS`]: its limits.
@@ -28,7 +28,7 @@ mod take_in;
 
 pub use elimination::Elimination;
 pub use fault::{EliminationFault, MOST_ENTRIES, MOST_STEPS, MOST_UNKNOWNS};
-pub use kept::{Contradiction, Multiplier};
+pub use kept::{Contradiction, Multiple};
 pub use powers::prime_powers;
 pub use ring::Ring;
 pub use row::LEVELS;

@@ -2,7 +2,7 @@
 
 use crate::elimination::Elimination;
 use crate::fault::EliminationFault;
-use crate::kept::{Contradiction, Multiplier, Origin, PlaceRange};
+use crate::kept::{Contradiction, Multiple, Origin, PlaceRange};
 use std::alloc::Global;
 
 impl Elimination {
@@ -16,9 +16,9 @@ impl Elimination {
         &self,
         alloc: Global,
         found: Contradiction,
-    ) -> Result<Vec<Multiplier>, EliminationFault> {
+    ) -> Result<Vec<Multiple>, EliminationFault> {
         let mut multipliers = Vec::new(alloc);
-        multipliers.push(Multiplier {
+        multipliers.push(Multiple {
             equation: found.equation,
             factor: found.times,
         })?;
@@ -33,7 +33,7 @@ impl Elimination {
         &self,
         found: Contradiction,
         owed: &mut Vec<u32>,
-        multipliers: &mut Vec<Multiplier>,
+        multipliers: &mut Vec<Multiple>,
     ) -> Result<(), EliminationFault> {
         self.owe(owed, found.uses, found.times)?;
         for (place, solved) in self.solved.iter().enumerate().rev() {
@@ -42,7 +42,7 @@ impl Elimination {
             };
             if let (true, Some(equation)) = (factor != 0, solved.origin.equation) {
                 let factor = self.undivided(factor, solved.origin)?;
-                multipliers.push(Multiplier { equation, factor })?;
+                multipliers.push(Multiple { equation, factor })?;
                 self.owe(owed, solved.origin.uses, factor)?;
             }
         }

@@ -14,7 +14,7 @@ use crate::listener::Listener;
 use crate::problem::CommonTuples;
 use crate::weights::{Weighing, Weighted, add_up};
 use std::alloc::Global;
-use wf_elimination::{Contradiction, Elimination, Multiplier, Ring};
+use wf_elimination::{Contradiction, Elimination, Multiple, Ring};
 
 /// A listener is told of the powers of two of equations from this one on.
 const FIRST_TOLD: u64 = 65_536;
@@ -222,7 +222,7 @@ impl System {
     fn add_weights(
         &self,
         problem: &CommonTuples,
-        multiplier: Multiplier,
+        multiplier: Multiple,
         weighted: &mut Vec<Weighted>,
     ) -> Result<(), FinderFault> {
         let Some(equation) = self.taken.get(multiplier.equation as usize) else {

@@ -1,0 +1,12 @@
+pub mod FilledValues
+pub mod Digits
+pub mod Inputs
+pub mod Faults
+pub mod Steps
+pub mod Settled
+pub mod MultiplierKeys
+pub mod TaskKeys
+pub mod SameFaults
+pub mod RowSteps
+pub mod Answer
+pub mod OwnRows

@@ -1,0 +1,50 @@
+//! Multipliers one by one.
+
+ghost use Rattle.wf_balance.specs.Judge.{Judges, multiplier_fault, multipliers_fault};
+ghost use Rattle.wf_balance.specs.Multipliers.{multiplier_seen, multipliers_seen};
+
+use crate::fault::BalanceFault;
+use crate::multiplier::Multiplier;
+use wf_task::Task;
+
+/// Judges the multipliers in order. The first fault is answered.
+pub(crate) fn judge_multipliers(
+    task: &Task,
+    modulus: u32,
+    multipliers: &[Multiplier],
+) -> Result<(), BalanceFault>
+    ensures { Judges result
+        (multipliers_fault task.now modulus 0 (multipliers_seen multipliers.now)) }
+{
+    'multipliers: for (place, multiplier) in multipliers.iter().enumerate() {
+        judge_multiplier(task, modulus, place as u64, multiplier)?;
+    }
+    Ok(())
+}
+
+/// Judges the multiplier of a place.
+fn judge_multiplier(
+    task: &Task,
+    modulus: u32,
+    place: u64,
+    multiplier: &Multiplier,
+) -> Result<(), BalanceFault>
+    ensures { Judges result
+        (multiplier_fault task.now modulus place (multiplier_seen multiplier.now)) }
+{
+    let simplices = task.inputs().simplices();
+    if multiplier.simplex as usize >= simplices.len() {
+        return Err(BalanceFault::NoSimplex { multiplier: place });
+    }
+    let colours = simplices[multiplier.simplex as usize].colours();
+    if multiplier.place >= colours {
+        return Err(BalanceFault::NoPlace { multiplier: place });
+    }
+    if multiplier.others.size() + 1 != colours {
+        return Err(BalanceFault::OthersLength { multiplier: place });
+    }
+    if multiplier.weight == 0 || multiplier.weight >= modulus {
+        return Err(BalanceFault::WeightRange { multiplier: place });
+    }
+    Ok(())
+}

@@ -1,0 +1,71 @@
+//! Weights under keys.
+
+ghost use Rattle.std.specs.Prelude.{◌≡◌, ◌<◌, ◌+◌, ◌%◌, ◌==◌, ℕ, All, IfOk, OnOk, unwrap_or, if◌then◌else◌};
+ghost use Rattle.std.specs.BTreeMap.{get};
+ghost use Rattle.std.specs.Ordering.{nat_cmp};
+ghost use Rattle.wf_trees.specs.Balance.{IsMultiplier};
+ghost use Rattle.wf_balance.specs.Keys.{weight_under};
+ghost use Rattle.wf_balance.specs.Multipliers.{multipliers_seen};
+
+use crate::key::{key_of, labels_code, values_code};
+use crate::multiplier::Multiplier;
+use std::alloc::{AllocError, Global};
+use std::collections::BTreeMap;
+use wf_task::Task;
+
+/// The place of a key that has none.
+pub(crate) const WHOLE: u8 = 4;
+
+/// The weights of the multipliers under each key, modulo a number.
+pub(crate) fn weights_of(
+    alloc: Global,
+    task: &Task,
+    modulus: u32,
+    multipliers: &[Multiplier],
+) -> Result<BTreeMap<u128, u32>, AllocError>
+    requires some { 0 < modulus }
+    requires fit { All (IsMultiplier task.now modulus) (multipliers_seen multipliers.now) }
+    ensures weights { IfOk result (λ m. (q : ℕ) → unwrap_or (get nat_cmp m q) 0
+        ≡ weight_under task.now (multipliers_seen multipliers.now) q % modulus) }
+    ensures digits { OnOk result
+        (All (λ x. All (λ v. v < 2047) x.others) (multipliers_seen multipliers.now)) }
+{
+    let symmetric = task.symmetric();
+    let simplices = task.inputs().simplices();
+    let mut weights = BTreeMap::new(alloc);
+    'multipliers: for multiplier in multipliers {
+        let simplex = simplices[multiplier.simplex as usize];
+        let values = values_code(multiplier.others.as_slice(), WHOLE);
+        let whole = labels_code(symmetric, &simplex, WHOLE);
+        let with = key_of(multiplier.place, whole, values);
+        put(&mut weights, with, multiplier.weight, modulus)?;
+        let face = labels_code(symmetric, &simplex, multiplier.place);
+        let without = key_of(WHOLE, face, values);
+        put(&mut weights, without, multiplier.weight, modulus)?;
+    }
+    Ok(weights)
+}
+
+/// Adds a weight under a key, modulo a number.
+fn put(
+    weights: &mut BTreeMap<u128, u32>,
+    key: u128,
+    weight: u32,
+    modulus: u32,
+) -> Result<(), AllocError>
+    requires { 0 < modulus }
+    ensures { IfOk result (λ done. (q : ℕ) → unwrap_or (get nat_cmp weights.new q) 0
+        ≡ (if key == q then (unwrap_or (get nat_cmp weights.old q) 0 + weight) % modulus
+        else unwrap_or (get nat_cmp weights.old q) 0)) }
+{
+    let sum = weights.entry(key)?.or_insert(0);
+    *sum = ((u64::from(*sum) + u64::from(weight)) % u64::from(modulus)) as u32;
+    Ok(())
+}
+
+/// The weight under a key.
+pub(crate) fn weight_under(weights: &BTreeMap<u128, u32>, key: u128) -> u32
+    ensures { result ≡ unwrap_or (get nat_cmp weights.now key) 0 }
+{
+    weights.get(&key).copied().unwrap_or(0)
+}
