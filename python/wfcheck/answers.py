@@ -1,7 +1,7 @@
 """Answers about a task, as objects that are read from the texts that the program writes."""
 import dataclasses
 import re
-from typing import Dict, List, NamedTuple, Sequence, Tuple, Union
+from typing import Callable, Dict, List, NamedTuple, Sequence, Tuple, Union
 
 from .tasks import Simplex, Task
 from .views import Unreadable, View
@@ -31,7 +31,8 @@ class Closed(NamedTuple):
 
 
 Step = Union[Taken, Branching, Closed]
-STEPS = {"p": Taken, "b": Branching, "z": Closed}
+STEPS: Dict[str, Callable[..., Step]] = {"p": Taken, "b": Branching, "z": Closed}
+NUMBERS = {"p": 3, "b": 1, "z": 1}
 # the last line of a map's report that shows that the map is the least
 LEAST = "f"
 
@@ -130,7 +131,7 @@ def report_of(text: str) -> Report:
 def step_of(line: str) -> Step:
     """The step that a line of a refutation is."""
     kind, *words = line.split(" ")
-    if kind not in STEPS or len(words) != len(STEPS[kind]._fields):
+    if kind not in STEPS or len(words) != NUMBERS[kind]:
         raise Unreadable(f"{line[:40]!r} is no line of a refutation")
     return STEPS[kind](*numbers(words, line))
 
