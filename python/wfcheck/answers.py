@@ -1,15 +1,20 @@
 """Answers about a task, as objects that are read from the texts that the program writes."""
 import dataclasses
+import html
+import itertools
+import json
 import re
 from typing import Callable, Dict, List, NamedTuple, Sequence, Tuple, Union
 
 from .tasks import Simplex, Task
-from .views import Unreadable, View
+from .views import Unreadable, View, words_of
 
 FIRST, OBSTRUCTION = "wfcheck report 1", "wfcheck obstruction 1"
 # behind the first line of a report stand its processes, rounds, points, executions and answer; of an obstruction its processes, simplices,
 # modulus and sum
 HEAD = 6
+# how many rows of a table a notebook shows
+SHOWN = 200
 NUMBER = re.compile(r"0|[1-9]\d*", re.A)
 
 
@@ -56,6 +61,13 @@ class Map:
     steps: Tuple[Step, ...] = dataclasses.field(repr=False)
     report: str = dataclasses.field(repr=False)
 
+    def _repr_html_(self) -> str:
+        """The map as a notebook shows it: a table of views and values."""
+        letter = "#" if json.loads(self.task.text)["symmetric"] else "p"
+        rows = [(words_of(view, letter), str(value)) for view, value in itertools.islice(self.values.items(), SHOWN)]
+        title = f"{self.task.name}: a decision map after {in_rounds(self.rounds)}"
+        return table(title, ("view", "value"), rows, len(self.values) - len(rows), "views")
+
 
 @dataclasses.dataclass(frozen=True)
 class Refutation:
@@ -65,6 +77,12 @@ class Refutation:
     rounds: int
     steps: Tuple[Step, ...] = dataclasses.field(repr=False)
     report: str = dataclasses.field(repr=False)
+
+    def _repr_html_(self) -> str:
+        """The refutation as a notebook shows it: a table of its steps."""
+        rows = [(str(number), in_words(step)) for number, step in enumerate(self.steps[:SHOWN], 1)]
+        title = f"{self.task.name}: no decision map after {in_rounds(self.rounds)}"
+        return table(title, ("step", "what it says"), rows, len(self.steps) - len(rows), "steps")
 
 
 @dataclasses.dataclass(frozen=True)
@@ -89,6 +107,32 @@ class Obstruction:
 
 
 Answer = Union[Map, Refutation, Proof, Obstruction]
+
+
+def in_rounds(rounds: int) -> str:
+    """A number of rounds in words."""
+    return f"{rounds} {'round' if rounds == 1 else 'rounds'}"
+
+
+def in_words(step: Step) -> str:
+    """A step of a refutation in words, without those that it rests on: `explain` has the whole argument."""
+    if isinstance(step, Taken):
+        return f"in execution {step.execution} no allowed tuple gives process {step.process} the value {step.value}"
+    if isinstance(step, Branching):
+        return f"each value that point {step.point} has left is supposed in turn"
+    return f"point {step.point} has no value left"
+
+
+def table(title: str, heads: Sequence[str], rows: Sequence[Sequence[str]], more: int, several: str) -> str:
+    """A table in HTML with a title. A last row tells how many more rows there are, if there are."""
+    def line(cells: Sequence[str], tag: str) -> str:
+        """A row of cells."""
+        return "<tr>" + "".join(f"<{tag}>{html.escape(cell)}</{tag}>" for cell in cells) + "</tr>"
+
+    shown = [line(heads, "th"), *(line(row, "td") for row in rows)]
+    if more:
+        shown.append(f'<tr><td colspan="{len(heads)}">.. and {more:,} more {several}</td></tr>')
+    return f"<table><caption>{html.escape(title)}</caption>{''.join(shown)}</table>"
 
 
 def text_of(answer: Union[Answer, str]) -> str:

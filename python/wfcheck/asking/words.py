@@ -15,7 +15,7 @@ import sys
 import tempfile
 from typing import Dict, List, Optional, Tuple
 
-from ..running import VARIABLE, NoProgram, program
+from ..running import VARIABLE, NoProgram, linter, program
 from . import __doc__ as about
 from . import arrays, branches, cases, fewer, never, questions, runs, table
 from .notes import Notes, Room, keep
@@ -39,10 +39,10 @@ REFUSED, CUT_OFF = 2, 130
 GB = 1 << 30
 
 
-def parsed(listed: List[str]) -> Tuple[argparse.ArgumentParser, argparse.Namespace]:
+def parsed(listed: List[str], name: str) -> Tuple[argparse.ArgumentParser, argparse.Namespace]:
     """The words as they stand."""
     words = argparse.ArgumentParser(
-        description=about, formatter_class=argparse.RawDescriptionHelpFormatter, usage="ask TASK ROUNDS [options]", prog="ask")
+        description=about, formatter_class=argparse.RawDescriptionHelpFormatter, usage=f"{name} TASK ROUNDS [options]", prog=name)
     words.add_argument("task")
     words.add_argument("rounds")
     words.add_argument("--solver")
@@ -65,9 +65,9 @@ def parsed(listed: List[str]) -> Tuple[argparse.ArgumentParser, argparse.Namespa
     return words, words.parse_args(listed)
 
 
-def asked(listed: List[str], command: List[str]) -> argparse.Namespace:
+def asked(listed: List[str], command: List[str], name: str) -> argparse.Namespace:
     """The words, the task's file, and the rounds in turn. The command is that by which a job asks again."""
-    words, found = parsed(listed)
+    words, found = parsed(listed, name)
     try:
         found.command = [*named_program(), *command]
         program()
@@ -77,7 +77,8 @@ def asked(listed: List[str], command: List[str]) -> argparse.Namespace:
     path = pathlib.Path(found.task)
     found.task = path if path.is_file() else runs.TASKS / f"{found.task.removesuffix('.json')}.json"
     if not found.task.is_file():
-        words.error(f"{path} is no file, and no task of gallery/tasks")
+        make = f"`wfcheck-task {path.name}` writes the file of a task of the gallery"
+        words.error(f"{path} is no file, and no task of gallery/tasks" if runs.TASKS.is_dir() else f"{path} is no file; {make}")
     rounds = re.fullmatch(r"(\d+)(?:\.\.(\d+))?", found.rounds, re.A)
     first_rounds, last = (int(rounds[1]), int(rounds[2] or rounds[1])) if rounds else (1, 0)
     if first_rounds > last:
@@ -209,12 +210,12 @@ def refusal(said: str, task: pathlib.Path) -> str:
     if not said.startswith("wfcheck: "):
         return said.rstrip("\n")
     about_task = re.match(r"wfcheck: (?:[1-9]|1[0-4]|18) ", said)
-    return said + (f"tools/lint.py {task} says where, in words" if about_task else 'docs/FORMAT.md, "Refusals", says what that means')
+    return said + (f"{linter()} {task} says where, in words" if about_task else 'docs/FORMAT.md, "Refusals", says what that means')
 
 
-def main(listed: List[str], command: List[str]) -> int:
-    """Asks what a list of words says, and returns the status."""
-    words = asked(listed, command)
+def main(listed: List[str], command: List[str], name: str = "ask") -> int:
+    """Asks what a list of words says, by a command with a name, and returns the status."""
+    words = asked(listed, command, name)
     if isinstance(sys.stdout, io.TextIOWrapper):
         sys.stdout.reconfigure(errors="backslashreplace")
     for end in runs.ENDING:
