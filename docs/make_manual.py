@@ -1,9 +1,9 @@
 #!/usr/bin/env python3
 """Makes the man pages and the completions of shells from what the programs say with `--help`.
 
-    docs/make-manual [--program FILE]      writes docs/wfcheck.1, docs/wfverify.1, and docs/completions for bash, zsh and fish
+    docs/make_manual.py [--program FILE]      writes docs/wfcheck.1, docs/wfverify.1, and docs/completions for bash, zsh and fish
 
-All commands that `wfcheck --help` lists are taken, with all that `wfcheck COMMAND --help` says of each. `docs/make-commands` makes
+All commands that `wfcheck --help` lists are taken, with all that `wfcheck COMMAND --help` says of each. `docs/make_commands.py` makes
 docs/COMMANDS.md from the same. `checks/manual` compares the files with what is made today. The script needs bin/wfcheck, as
 `make build` leaves it, and ends with status 2 if a text can't be read. The help of wfverify stands in tests/verifier/help, with which
 `checks/verifier` compares what that program says."""
@@ -91,7 +91,7 @@ def items(listed):
 
 def page(top, commands, version):
     """The man page."""
-    lines = ['.\\" made by docs/make-manual', f'.TH {NAME.upper()} 1 "" "{version}" "User Commands"']
+    lines = ['.\\" made by docs/make_manual.py', f'.TH {NAME.upper()} 1 "" "{version}" "User Commands"']
     lines += [".SH NAME", f"{NAME} \\- {roff(top.about[:1].lower() + top.about[1:])}", ".SH SYNOPSIS"]
     for told in commands.values():
         lines += [".PP", roff(told.usage)]
@@ -112,7 +112,7 @@ def checker_page():
     """The man page of wfverify."""
     told = read((SAID / "help/stdout").read_text(), CHECKER)
     version = (SAID / "version/stdout").read_text().split(" (")[0]
-    lines = ['.\\" made by docs/make-manual', f'.TH {CHECKER.upper()} 1 "" "{version}" "User Commands"']
+    lines = ['.\\" made by docs/make_manual.py', f'.TH {CHECKER.upper()} 1 "" "{version}" "User Commands"']
     lines += [".SH NAME", f"{CHECKER} \\- {roff(told.about[:1].lower() + told.about[1:])}", ".SH SYNOPSIS", ".PP", roff(told.usage)]
     lines += [".SH DESCRIPTION", roff(f"{told.about}."), ".PP", *map(roff, told.text)]
     lines += [".SH OPTIONS", *items(told.lists["Options"])]
@@ -126,7 +126,7 @@ def checker_page():
 def bash(top, commands):
     """Completions for bash."""
     first = " ".join([*commands, "help", *words_of(top)])
-    lines = ["# made by docs/make-manual: source this file in bash", f"_{NAME}() {{",
+    lines = ["# made by docs/make_manual.py: source this file in bash", f"_{NAME}() {{",
              "    local cur=${COMP_WORDS[COMP_CWORD]} prev=${COMP_WORDS[COMP_CWORD - 1]}", "    local words", "    COMPREPLY=()", "    if [ \"$COMP_CWORD\" -eq 1 ]; then",
              f"        mapfile -t COMPREPLY < <(compgen -W \"{first}\" -- \"$cur\")", "        return", "    fi",
              "    case ${COMP_WORDS[1]}:$prev in"]
@@ -156,7 +156,7 @@ def quoted(text):
 
 def zsh(top, commands):
     """Completions for zsh."""
-    lines = [f"#compdef {NAME}", "# made by docs/make-manual: keep this file in a folder of $fpath", ""]
+    lines = [f"#compdef {NAME}", "# made by docs/make_manual.py: keep this file in a folder of $fpath", ""]
     lines += [f"_{NAME}() {{", "    local -a commands", "    commands=("]
     lines += [f"        {quoted(name + ':' + told.about.replace(':', chr(92) + ':'))}" for name, told in commands.items()]
     lines += ["    )", "    if (( CURRENT == 2 )); then", "        _describe command commands"]
@@ -183,7 +183,7 @@ def zsh_arguments(told, indent):
 
 def fish(top, commands):
     """Completions for fish."""
-    lines = ["# made by docs/make-manual: keep this file in a folder of $fish_complete_path", f"complete -c {NAME} -f"]
+    lines = ["# made by docs/make_manual.py: keep this file in a folder of $fish_complete_path", f"complete -c {NAME} -f"]
     for name, told in commands.items():
         lines.append(f"complete -c {NAME} -n __fish_use_subcommand -a {name} -d {fish_quoted(told.about)}")
     lines += [fish_option("__fish_use_subcommand", it) for it in options(top)]
