@@ -1,12 +1,13 @@
 #!/usr/bin/env python3
-"""Makes the man pages and the completions of shells from what the programs say with `--help`.
+"""Makes the man pages and the completions of shells from what the programs and the Python commands say with `--help`.
 
-    docs/make_manual.py [--program FILE]      writes docs/wfcheck.1, docs/wfverify.1, and docs/completions for bash, zsh and fish
+    docs/make_manual.py [--program FILE]      writes a page docs/*.1 for each command, and docs/completions for bash, zsh and fish
 
 All commands that `wfcheck --help` lists are taken, with all that `wfcheck COMMAND --help` says of each. `docs/make_commands.py` makes
 docs/COMMANDS.md from the same. `checks/manual` compares the files with what is made today. The script needs bin/wfcheck, as
 `make build` leaves it, and ends with status 2 if a text can't be read. The help of wfverify stands in tests/verifier/help, with which
-`checks/verifier` compares what that program says."""
+`checks/verifier` compares what that program says. The pages of wfcheck-ask, wfcheck-lint and wfcheck-task are made of the documents of
+their modules in python/wfcheck."""
 import collections
 import pathlib
 import re
@@ -15,6 +16,7 @@ import sys
 
 sys.path.insert(0, str(pathlib.Path(__file__).resolve().parent.parent / "checks"))
 import common  # noqa: E402
+from wfcheck import asking, linting, version, writing  # noqa: E402
 
 NAME = "wfcheck"
 CHECKER, SAID = "wfverify", common.ROOT / "tests/verifier"
@@ -120,6 +122,47 @@ def checker_page():
     return "".join(f"{line}\n" for line in lines)
 
 
+# ---- the pages of the commands that are Python
+
+# each command: what it does, its usage, and the document and the words of its module
+SCRIPTS = {
+    "wfcheck-ask": ("ask a question that may be too hard for the search alone", "TASK ROUNDS [options]", asking.__doc__, None),
+    "wfcheck-lint": ("say where a task file is refused, or what in it most likely is a slip", "[--all] TASK.json", linting.__doc__, linting.parser),
+    "wfcheck-task": ("write task files of the gallery", "[--folder FOLDER] NAME .. | --all | --list", writing.__doc__, writing.parser),
+}
+POINT, INDENTED = "  - ", "    "
+
+
+def script_page(name, about, usage, document, words):
+    """The man page of a command that is Python."""
+    lines = ['.\\" made by docs/make_manual.py', f'.TH {name.upper()} 1 "" "{NAME} {version.VERSION}" "User Commands"']
+    lines += [".SH NAME", f"{roff(name)} \\- {roff(about)}", ".SH SYNOPSIS", f"\\fB{roff(name)}\\fR {roff(usage)}", ".SH DESCRIPTION"]
+    # the first paragraph says what the page's head says
+    for part in document.split("\n\n")[1:]:
+        lines += paragraph(part.split("\n"))
+    if words:
+        lines += [".SH OPTIONS", *items((", ".join(it.option_strings) or it.metavar or it.dest, it.help) for it in words(name)._actions)]
+    lines += [".SH SEE ALSO", f"{NAME}(1), {CHECKER}(1), " + ", ".join(f"{roff(it)}(1)" for it in SCRIPTS if it != name)]
+    return "".join(f"{line}\n" for line in lines)
+
+
+def paragraph(lines):
+    """A paragraph of a document: a list with dashes, a list of words with what is said of each, or text."""
+    mark = next((it for it in (POINT, INDENTED) if lines[0].startswith(it)), None)
+    if not mark:
+        return [".PP", *map(roff, lines)]
+    listed = []
+    for line in lines:
+        if line.startswith(mark) and line[len(mark)] != " ":
+            listed.append(line.removeprefix(mark))
+        else:
+            listed[-1] += f"  {line.strip()}"
+    if mark == POINT:
+        return [it for text in listed for it in (".IP \\(bu 2", roff(" ".join(text.split())))]
+    told = (text.partition("  ") for text in listed)
+    return [*items((word, " ".join(said.split())) for word, _, said in told if said)]
+
+
 # ---- completions
 
 
@@ -212,10 +255,11 @@ def commands():
 def made():
     """Each file, with its text."""
     top, listed = help_of(""), commands()
-    version = subprocess.run([common.program(), "--version"], capture_output=True, text=True, check=True).stdout.split(" (")[0].strip()
+    said = subprocess.run([common.program(), "--version"], capture_output=True, text=True, check=True).stdout.split(" (")[0].strip()
     docs = common.ROOT / "docs"
     return {
-        docs / f"{CHECKER}.1": checker_page(), docs / f"{NAME}.1": page(top, listed, version), docs / f"completions/{NAME}.bash": bash(top, listed),
+        docs / f"{CHECKER}.1": checker_page(), docs / f"{NAME}.1": page(top, listed, said),
+        **{docs / f"{name}.1": script_page(name, *told) for name, told in SCRIPTS.items()}, docs / f"completions/{NAME}.bash": bash(top, listed),
         docs / f"completions/_{NAME}": zsh(top, listed), docs / f"completions/{NAME}.fish": fish(top, listed),
     }
 

@@ -78,10 +78,13 @@ def judged(path: pathlib.Path, why: str) -> pathlib.Path:
     if not path.is_file():
         raise NoProgram(f"{why}, which is no file: {TO_DO}")
     try:
-        said = subprocess.run([str(path), "--version"], stdin=subprocess.DEVNULL, capture_output=True, timeout=SECONDS, check=False).stdout
+        run = subprocess.run([str(path), "--version"], stdin=subprocess.DEVNULL, capture_output=True, timeout=SECONDS, check=False)
     except (OSError, subprocess.TimeoutExpired) as error:
         raise NoProgram(f"{why}, which can't be run ({error}): {TO_DO}") from error
-    if not said.startswith(f"{NAME} ".encode()):
+    if run.returncode:
+        told = run.stderr.decode(errors="replace").strip() or f"status {run.returncode}"
+        raise NoProgram(f"{why}, which can't be run ({told}): {TO_DO}")
+    if not run.stdout.startswith(f"{NAME} ".encode()):
         raise NoProgram(f"{why}, which is another program: its --version does not begin with {NAME!r}")
     return path
 
@@ -96,6 +99,7 @@ def released(path: pathlib.Path) -> pathlib.Path:
         raise NoProgram(f"release/{NAME} can't be taken ({error}): {TO_DO}") from error
     if (found, path.name) not in wanted:
         raise NoProgram(f"release/{NAME} is not the file that release/PROVENANCE names, and is not run: `git checkout release` gets it back")
+    judged(path, f"the only program is release/{NAME}")
     print(f"{NAME}: there is no bin/{NAME}, so the released program is run: {path}", file=sys.stderr)
     return path
 
