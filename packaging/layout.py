@@ -25,7 +25,7 @@ COMPLETIONS = {
     "wfcheck.fish": "share/fish/vendor_completions.d/wfcheck.fish",
 }
 # whole folders and files below SHARE
-SHARED = ["gallery", "examples", "python/wfcheck", "python/pyproject.toml", "python/README.md", "docs/task.schema.json", "LICENSE"]
+SHARED = ["gallery", "examples", "python/wfcheck", "python/pyproject.toml", "python/backend.py", "python/README.md", "docs/task.schema.json", "LICENSE"]
 LEFT_OUT = {"__pycache__"}
 SHA = re.compile(r"^([0-9a-f]{64}) [ *](\S+)$", re.M)
 EXECUTABLE, PLAIN = 0o755, 0o644
