@@ -56,9 +56,7 @@ ENDS = """
 statuses](../README.md#answers-and-trust) are the same for all commands. The checker alone, [wfverify](#wfverify), is a
 program of its own.
 
-`man docs/wfcheck.1` shows the man page. For completions in bash write `source docs/completions/wfcheck.bash`. For zsh
-copy [_wfcheck](completions/_wfcheck) to a folder of `$fpath`, and for fish
-[wfcheck.fish](completions/wfcheck.fish) to `~/.config/fish/completions`.
+`make install` puts man pages and completions into place.
 """
 
 
