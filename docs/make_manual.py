@@ -105,7 +105,8 @@ def page(top, commands, version):
             lines += [*([".PP", roff(f"{head}:")] if head != "Options" else []), *items(listed)]
         lines += [".PP", *map(roff, told.text)] if told.text else []
     lines += [".SH OPTIONS", *items(top.lists["Options"]), ".SH EXIT STATUS", *items(STATUSES)]
-    lines += [".SH SEE ALSO", roff("docs/FORMAT.md of the repository: the texts that are read and written, and every refusal. "
+    others = ", ".join(f"{roff(it)}(1)" for it in [CHECKER, *SCRIPTS])
+    lines += [".SH SEE ALSO", f"{others}.", roff("docs/FORMAT.md of the repository: the texts that are read and written, and every refusal. "
                                    "docs/ANSWERS.md: what an answer means.")]
     return "".join(f"{line}\n" for line in lines)
 

@@ -21,9 +21,9 @@ TASKS, ANSWERS = ROOT / "gallery/tasks", ROOT / "gallery/answers"
 
 
 def has_program():
-    """Whether there is a program."""
+    """Whether there is a program. The tests name it from then on, so that nothing is told of the released one again and again."""
     try:
-        running.program()
+        os.environ[running.VARIABLE] = str(running.program())
     except wfcheck.NoProgram:
         return False
     return True
