@@ -3,7 +3,6 @@ installation, the archive and the Debian package all have these files.
 
 `Mistake` is what can't be done, in a line for whoever called."""
 import hashlib
-import os
 import pathlib
 import re
 import subprocess
@@ -122,12 +121,18 @@ def programs(say=print):
     return found
 
 
+def provenance_of(binaries):
+    """What PROVENANCE says, if these are the programs that it names; else nothing."""
+    file = RELEASED / PROVENANCE
+    text = file.read_text() if file.is_file() else ""
+    return text if {(digest(data), name) for name, data in binaries.items()} <= {*SHA.findall(text)} else ""
+
+
 def below(path):
     """The files at or below a path of the repository."""
     if path.is_file():
         return [path]
-    found = (pathlib.Path(folder) / name for folder, folders, names in os.walk(path) for name in names if not LEFT_OUT & {*pathlib.Path(folder).parts})
-    return sorted(found)
+    return sorted(it for it in path.rglob("*") if it.is_file() and not LEFT_OUT & {*it.parts})
 
 
 def files(binaries, provenance):
