@@ -41,11 +41,10 @@ def main(listed: List[str], name: str, folder: Optional[pathlib.Path] = None) ->
     asked = words.parse_args(listed)
     if asked.all == bool(asked.names) and not asked.list:
         words.error("name the tasks that are to be written, or all by --all; --list says the names")
-    made = list(gallery())
-    unknown = sorted({*asked.names} - {each.name for each in made})
+    chosen = made(asked.names)
+    unknown = sorted({*asked.names} - {each.name for each in chosen})
     if unknown:
         words.error(f"no task here is named {unknown[0]!r}; --list says the names")
-    chosen = [each for each in made if not asked.names or each.name in asked.names]
     if asked.list:
         print("\n".join(each.name for each in chosen))
         return 0
@@ -54,14 +53,27 @@ def main(listed: List[str], name: str, folder: Optional[pathlib.Path] = None) ->
     return max([written(each, to, is_over, name) for each in chosen])
 
 
-def written(made: Task, folder: pathlib.Path, is_over: bool, name: str) -> int:
+def made(names: List[str]) -> List[Task]:
+    """The tasks of the gallery with these names, or all if no name is given. None is made behind the last that is named."""
+    found: List[Task] = []
+    for each in gallery():
+        if names and each.name in names:
+            found.append(each)
+            if len(found) == len({*names}):
+                break
+        elif not names:
+            found.append(each)
+    return found
+
+
+def written(each: Task, folder: pathlib.Path, is_over: bool, name: str) -> int:
     """Writes the file of a task, says so, and returns the status. What is there and says something else may stay."""
-    path = folder / f"{made.name}.json"
+    path = folder / f"{each.name}.json"
     try:
-        if not is_over and path.exists() and path.read_bytes() != made.text.encode():
+        if not is_over and path.exists() and path.read_bytes() != each.text.encode():
             print(f"{name}: {path} is there and says something else: it is left as it is", file=sys.stderr)
             return REFUSED
-        path.write_text(made.text, encoding="utf-8")
+        path.write_text(each.text, encoding="utf-8")
     except OSError as error:
         print(f"{name}: {path}: {error.strerror}", file=sys.stderr)
         return REFUSED
