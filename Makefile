@@ -28,9 +28,9 @@ dist:
 deb:
 	@python3 -B packaging/deb
 
-# Renews release/ from bin/, once for each version: CONTRIBUTING.md says when.
+# Renews release/ from bin/, once for each version: CONTRIBUTING.md says when. COMMIT=.. names an earlier commit with the same crates.
 release:
-	@python3 -B packaging/release
+	@python3 -B packaging/release $(if $(COMMIT),--commit "$(COMMIT)")
 
 # The proved program, at bin/wfcheck. Whatever it stands on is proved first, several crates side by side. It may be stopped: called again,
 # it goes on there.

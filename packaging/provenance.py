@@ -28,7 +28,7 @@ These commands make the same two files again:
     git checkout {commit}
     make build
     make verifier
-    make release
+    {strip} bin/wfcheck bin/wfverify
 
 """
 
@@ -79,16 +79,18 @@ def told(binaries, commit, sources):
     }
     lines = "".join(f"{name:<13}{said}\n" for name, said in fields.items())
     shas = "".join(f"{layout.digest(data)}  {name}\n" for name, data in binaries.items())
-    return f"{HEAD}{lines}{AGAIN.format(commit=commit)}{shas}"
+    return f"{HEAD}{lines}{AGAIN.format(commit=commit, strip=' '.join(STRIP))}{shas}"
 
 
-def built():
+def built(named="HEAD"):
     """The stripped programs of bin/, with their PROVENANCE. Raises Mistake if they are not those of the sources of a commit."""
-    commit, sources = git("rev-parse", "HEAD"), crates.sources()
+    commit, sources = git("rev-parse", "--verify", f"{named}^{{commit}}"), crates.sources()
     if not commit:
-        raise layout.Mistake("PROVENANCE names a commit, and this folder is no clone of the repository")
+        raise layout.Mistake(f"PROVENANCE names a commit, and {named} is none of this repository")
     if git("status", "--porcelain", "--", *crates.SOURCES):
         raise layout.Mistake(f"{' and '.join(crates.SOURCES)} have changes that no commit has: commit them, and build again")
+    if git("diff", "--quiet", commit, "HEAD", "--", *crates.SOURCES) is None:
+        raise layout.Mistake(f"{named} has another {' or '.join(crates.SOURCES)} than the head: build it at that commit")
     for name in layout.PROGRAMS:
         noted = layout.BUILT / f"{name}.sources"
         if not (layout.BUILT / name).is_file():
