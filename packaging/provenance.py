@@ -6,6 +6,7 @@ import hashlib
 import os
 import pathlib
 import re
+import shutil
 import subprocess
 import sys
 import tempfile
@@ -23,7 +24,7 @@ HEAD = """Where wfcheck and wfverify come from. `sha256sum --check PROVENANCE`, 
 
 """
 AGAIN = """
-These commands make the same two files again:
+These commands build both again from the same sources:
 
     git checkout {commit}
     make build
@@ -111,10 +112,14 @@ def released(say):
 def chosen(say=print):
     """The programs that are handed out, with their PROVENANCE: the released ones if these are of this version, else those of bin/, stripped.
 
-    So an archive of a version has the released bytes, whoever makes it."""
+    So an archive of a version has the released bytes, whoever makes it. If bin/ has other programs, that is said."""
     file = layout.RELEASED / layout.PROVENANCE
     if file.is_file() and field(file.read_text(), "version") == layout.version():
-        return released(say)
+        binaries, text = released(say)
+        for name in layout.PROGRAMS:
+            if shutil.which(STRIP[0]) and (layout.BUILT / name).is_file() and stripped((layout.BUILT / name).read_bytes()) != binaries[name]:
+                say(f"bin/{name} is another: to hand that out, raise the version and call `make release`")
+        return binaries, text
     say("the programs are bin/wfcheck and bin/wfverify, stripped")
     return built()
 
