@@ -1,13 +1,36 @@
-# Needs the toolchain's command `rt` on the path, and Python 3. `bench` needs g++ and rustc as well; where there is a C compiler, `test`
-# also has calls of the operating system fail in turn.
+# `demo`, `install`, `dist` and `deb` need Python 3 or a shell alone. The others need the toolchain's command `rt` on the path as well, and
+# `bench` g++ and rustc. Where there is a C compiler, `test` also has calls of the operating system fail in turn.
 
-.PHONY: demo build verifier quick test definitions bench pictures
+.PHONY: demo build verifier quick test definitions bench pictures install uninstall dist deb release
+
+# where `make install` installs, and a folder that stands before it, as for a package
+PREFIX = /usr/local
+DESTDIR =
 
 # Four questions that the field knows the answers to, or with TASK=FILE ROUNDS=R a task of one's own. Where `make build` hasn't
-# left a program yet, it is run from its sources, without its proofs, in two or three minutes. make itself ends with 2 for each status of
-# the program but 0 (no map is 1): `tools/demo FILE R` passes it on.
+# left a program, the released one is asked. make itself ends with 2 for each status of the program but 0 (no map is 1):
+# `tools/demo FILE R` passes it on.
 demo:
 	@tools/demo $(if $(TASK),"$(TASK)" "$(ROUNDS)")
+
+# The commands, their pages, completions, gallery and examples, below PREFIX. It builds nothing: without bin/ it takes the released programs.
+install:
+	@python3 -B packaging/install --prefix "$(PREFIX)" --destdir "$(DESTDIR)"
+
+# Removes exactly what `make install` installed there.
+uninstall:
+	@python3 -B packaging/install --prefix "$(PREFIX)" --destdir "$(DESTDIR)" --remove
+
+# The archive of this version, in dist/, and the Debian package.
+dist:
+	@python3 -B packaging/dist
+
+deb:
+	@python3 -B packaging/deb
+
+# Renews release/ from bin/, once for each version: CONTRIBUTING.md says when. COMMIT=.. names an earlier commit with the same crates.
+release:
+	@python3 -B packaging/release $(if $(COMMIT),--commit "$(COMMIT)")
 
 # The proved program, at bin/wfcheck. Whatever it stands on is proved first, several crates side by side. It may be stopped: called again,
 # it goes on there.

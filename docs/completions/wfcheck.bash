@@ -1,4 +1,4 @@
-# made by docs/make-manual: source this file in bash
+# made by docs/make_manual.py: source this file in bash
 _wfcheck() {
     local cur=${COMP_WORDS[COMP_CWORD]} prev=${COMP_WORDS[COMP_CWORD - 1]}
     local words

@@ -1,4 +1,4 @@
-# made by docs/make-manual: keep this file in a folder of $fish_complete_path
+# made by docs/make_manual.py: keep this file in a folder of $fish_complete_path
 complete -c wfcheck -f
 complete -c wfcheck -n __fish_use_subcommand -a solve -d 'Read a task on standard input, and write its least decision map, or a refutation that there is none'
 complete -c wfcheck -n __fish_use_subcommand -a verify -d 'Read a report or an obstruction on standard input, and check it without a search'

@@ -7,8 +7,8 @@
 
     print(decide(task("mine", 2, [(0, 1)], legal, values=[0, 1]), 1))
 
-It needs Python 3.9 and the program `wfcheck`, which is found by the variable WFCHECK, else at bin/wfcheck of this repository, else on the
-path. `python3 -m wfcheck ask` is tools/ask, and `python3 -m wfcheck restrict` writes the task of some processes alone."""
+It needs Python 3.9. What asks something needs the program `wfcheck`: the variable WFCHECK names it, or it is bin/wfcheck or
+release/wfcheck of this repository, or it is on the path. `python3 -m wfcheck --help` lists the module's commands."""
 import sys
 
 try:
@@ -16,6 +16,7 @@ try:
     from .running import Error, NoAnswer, NoProgram, Refused
     from .questions import decide, explain, obstruction, points, solve, trim, verify
     from .tasks import Mistake, Task, read, restrict, task, write
+    from .version import VERSION as __version__
     from .views import View
 except Exception as error:
     # of `python3 -m wfcheck`: a status of Python's own would mean an answer
@@ -27,5 +28,5 @@ except Exception as error:
 __all__ = [
     "Answer", "Branching", "Closed", "Error", "Map", "Mistake", "NoAnswer", "NoProgram", "Obstruction", "Proof", "Refutation", "Refused",
     "Step", "Taken", "Task", "View", "Weighted", "decide", "explain", "obstruction", "points", "read", "restrict", "solve", "task",
-    "trim", "verify", "write",
+    "__version__", "trim", "verify", "write",
 ]

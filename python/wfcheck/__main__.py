@@ -1,5 +1,5 @@
-"""`python3 -m wfcheck ask TASK ROUNDS ..` is what tools/ask is. `python3 -m wfcheck restrict --processes 0,2 < TASK` writes the task of some
-processes alone. `python3 -m wfcheck draw TASK [REPORT]` draws."""
+"""`python3 -m wfcheck ask TASK ROUNDS ..`, `.. lint TASK` and `.. task NAME` are the commands wfcheck-ask, wfcheck-lint and wfcheck-task.
+`python3 -m wfcheck restrict --processes 0,2 < TASK` writes the task of some processes alone. `.. draw TASK [REPORT]` draws."""
 import argparse
 import pathlib
 import sys
@@ -7,8 +7,11 @@ from typing import List
 
 UNDECIDED, REFUSED = 3, 2
 FOLDER = pathlib.Path(__file__).resolve().parent.parent
-USAGE = "usage: python3 -m wfcheck ask TASK ROUNDS [options]\n       python3 -m wfcheck restrict --processes P,.. < TASK\n" \
-    "       python3 -m wfcheck draw TASK [REPORT] [options]"
+USAGE = """usage: python3 -m wfcheck ask TASK ROUNDS [options]
+       python3 -m wfcheck lint [--all] TASK
+       python3 -m wfcheck task NAME .. | --all | --list
+       python3 -m wfcheck restrict --processes P,.. < TASK
+       python3 -m wfcheck draw TASK [REPORT] [options]"""
 
 
 def main(words: List[str]) -> int:
@@ -18,6 +21,12 @@ def main(words: List[str]) -> int:
     if words[:1] == ["draw"]:
         from .drawing.main import main as draw
         return draw(words[1:])
+    if words[:1] == ["lint"]:
+        from . import linting
+        return linting.main(words[1:], "python3 -m wfcheck lint")
+    if words[:1] == ["task"]:
+        from . import writing
+        return writing.main(words[1:], "python3 -m wfcheck task")
     if words[:1] != ["ask"]:
         print(USAGE, file=sys.stdout if words[:1] == ["--help"] else sys.stderr)
         return 0 if words[:1] == ["--help"] else REFUSED
@@ -37,6 +46,7 @@ def numbers(text: str) -> List[int]:
 
 def restricted(listed: List[str]) -> int:
     """Reads a task, and writes that of some of its processes."""
+    from .running import linter
     from .tasks import Mistake, Task, restrict
     words = argparse.ArgumentParser(prog="python3 -m wfcheck restrict", description="Reads a task on standard input, and writes the task of some "
                                     "processes alone: the first of them is process 0 there, the next process 1, and so on.")
@@ -48,7 +58,7 @@ def restricted(listed: List[str]) -> int:
         print(f"restrict: {mistake}", file=sys.stderr)
         return REFUSED
     except (AttributeError, LookupError, RecursionError, TypeError, ValueError):
-        print("restrict: what is read is no task: tools/lint.py FILE says where it is wrong", file=sys.stderr)
+        print(f"restrict: what is read is no task: {linter()} FILE says where it is wrong", file=sys.stderr)
         return REFUSED
     return 0
 

@@ -1,15 +1,20 @@
 """Answers about a task, as objects that are read from the texts that the program writes."""
 import dataclasses
+import html
+import itertools
+import json
 import re
-from typing import Dict, List, NamedTuple, Optional, Sequence, Tuple, Union
+from typing import Callable, Dict, List, NamedTuple, Optional, Sequence, Tuple, Union
 
 from .tasks import Simplex, Task
-from .views import Unreadable, View
+from .views import Unreadable, View, words_of
 
 FIRST, OBSTRUCTION = "wfcheck report 1", "wfcheck obstruction 1"
 # behind the first line of a report stand its processes, rounds, points, executions and answer; of an obstruction its processes, simplices,
 # modulus and sum
 HEAD = 6
+# how many rows of a table a notebook shows
+SHOWN = 200
 NUMBER = re.compile(r"0|[1-9]\d*", re.A)
 
 
@@ -31,7 +36,8 @@ class Closed(NamedTuple):
 
 
 Step = Union[Taken, Branching, Closed]
-STEPS = {"p": Taken, "b": Branching, "z": Closed}
+STEPS: Dict[str, Callable[..., Step]] = {"p": Taken, "b": Branching, "z": Closed}
+NUMBERS = {"p": 3, "b": 1, "z": 1}
 # the last line of a map's report that shows that the map is the least
 LEAST = "f"
 
@@ -60,6 +66,13 @@ class Map:
         from .drawing.notebook import picture_of
         return picture_of(self)
 
+    def _repr_html_(self) -> str:
+        """The map as a notebook shows it: a table of views and values."""
+        letter = "#" if json.loads(self.task.text)["symmetric"] else "p"
+        rows = [(words_of(view, letter), str(value)) for view, value in itertools.islice(self.values.items(), SHOWN)]
+        title = f"{self.task.name}: a decision map after {in_rounds(self.rounds)}"
+        return (self._repr_svg_() or "") + table(title, ("view", "value"), rows, len(self.values) - len(rows), "views")
+
 
 @dataclasses.dataclass(frozen=True)
 class Refutation:
@@ -74,6 +87,12 @@ class Refutation:
         """The answer as a picture, where a notebook shows it."""
         from .drawing.notebook import picture_of
         return picture_of(self)
+
+    def _repr_html_(self) -> str:
+        """The refutation as a notebook shows it: a table of its steps."""
+        rows = [(str(number), in_words(step)) for number, step in enumerate(self.steps[:SHOWN], 1)]
+        title = f"{self.task.name}: no decision map after {in_rounds(self.rounds)}"
+        return (self._repr_svg_() or "") + table(title, ("step", "what it says"), rows, len(self.steps) - len(rows), "steps")
 
 
 @dataclasses.dataclass(frozen=True)
@@ -103,6 +122,32 @@ class Obstruction:
 
 
 Answer = Union[Map, Refutation, Proof, Obstruction]
+
+
+def in_rounds(rounds: int) -> str:
+    """A number of rounds in words."""
+    return f"{rounds} {'round' if rounds == 1 else 'rounds'}"
+
+
+def in_words(step: Step) -> str:
+    """A step of a refutation in words, without those that it rests on: `explain` has the whole argument."""
+    if isinstance(step, Taken):
+        return f"in execution {step.execution} no allowed tuple gives process {step.process} the value {step.value}"
+    if isinstance(step, Branching):
+        return f"each value that point {step.point} has left is supposed in turn"
+    return f"point {step.point} has no value left"
+
+
+def table(title: str, heads: Sequence[str], rows: Sequence[Sequence[str]], more: int, several: str) -> str:
+    """A table in HTML with a title. A last row tells how many more rows there are, if there are."""
+    def line(cells: Sequence[str], tag: str) -> str:
+        """A row of cells."""
+        return "<tr>" + "".join(f"<{tag}>{html.escape(cell)}</{tag}>" for cell in cells) + "</tr>"
+
+    shown = [line(heads, "th"), *(line(row, "td") for row in rows)]
+    if more:
+        shown.append(f'<tr><td colspan="{len(heads)}">.. and {more:,} more {several}</td></tr>')
+    return f"<table><caption>{html.escape(title)}</caption>{''.join(shown)}</table>"
 
 
 def text_of(answer: Union[Answer, str]) -> str:
@@ -145,7 +190,7 @@ def report_of(text: str) -> Report:
 def step_of(line: str) -> Step:
     """The step that a line of a refutation is."""
     kind, *words = line.split(" ")
-    if kind not in STEPS or len(words) != len(STEPS[kind]._fields):
+    if kind not in STEPS or len(words) != NUMBERS[kind]:
         raise Unreadable(f"{line[:40]!r} is no line of a refutation")
     return STEPS[kind](*numbers(words, line))
 

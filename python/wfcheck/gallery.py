@@ -1,6 +1,6 @@
 """The tasks of the gallery, each from one predicate: what theory and the program say of them is in gallery/rows.tsv."""
 import itertools
-from typing import Dict, Iterable, Iterator, List, Sequence, Set, Tuple
+from typing import Any, Dict, Iterable, Iterator, List, Sequence, Set, Tuple
 
 from .tasks import Legal, Simplex, Task, faces, task
 
@@ -166,7 +166,7 @@ def in_star(start: Values, end: Values) -> bool:
 
 # a simplex for each choice of those that take part, with its decisions; two triangles on one edge and a third meet in one vertex,
 # 1 at process 0
-HOURGLASS = {
+HOURGLASS: Dict[Tuple[int, ...], List[Tuple[int, ...]]] = {
     (0,): [(0,)], (1,): [(1,)], (2,): [(1,)], (1, 2): [(1, 1)],
     (0, 1): [(0, 2), (1, 2), (1, 1)], (0, 2): [(0, 2), (1, 2), (1, 1)], (0, 1, 2): [(0, 2, 2), (1, 2, 2), (1, 1, 1)],
 }
@@ -188,11 +188,11 @@ def blocks(n: int) -> List[Tuple[int, ...]]:
 def subdivision(n: int, rounds: int) -> Set[Simplex]:
     """The simplices of the chromatic subdivision, made so many times, of the simplex of n processes and of its faces.
     Its vertices are numbered for each process by itself."""
-    numbers = [{} for _ in range(n)]
-    simplices = set()
+    numbers: List[Dict[Any, int]] = [{} for _ in range(n)]
+    simplices: Set[Simplex] = set()
     for some in faces(range(n)):
         for run in itertools.product(blocks(len(some)), repeat=rounds):
-            views = some
+            views: List[Any] = [*some]
             for word in run:
                 views = [tuple(v for v, b in zip(views, word) if b <= mine) for mine in word]
             simplices.add(tuple((p, numbers[p].setdefault(v, len(numbers[p]))) for p, v in zip(some, views)))

@@ -94,7 +94,8 @@ def obstruction(task: Task, modulus: Optional[int] = None, *, seconds: Optional[
     """An obstruction of a task, accepted by `wfcheck verify`, or None. That none is found says nothing about the task.
 
     Raises Refused where the search gives up, and of a task with a first block."""
-    ran = run(["obstruction", *(["--modulus", modulus] if modulus is not None else [])], task.text, seconds)
+    asked: List[Word] = ["obstruction"] if modulus is None else ["obstruction", "--modulus", modulus]
+    ran = run(asked, task.text, seconds)
     if ran.status:
         return None
     verify(task, ran.written, seconds=seconds)

@@ -1,13 +1,24 @@
 """The program `wfcheck`: where it is, and one run of it."""
+import functools
+import hashlib
 import os
 import pathlib
 import re
 import shutil
 import subprocess
+import sys
 from typing import NamedTuple, Optional, Sequence, Union
 
 TOP = pathlib.Path(__file__).resolve().parent.parent.parent
 VARIABLE, NAME = "WFCHECK", "wfcheck"
+# where `make build` leaves the program, and where `make install` puts it beside share/wfcheck
+PLACES = [TOP / "bin" / NAME, *([TOP.parent.parent / "bin" / NAME] if TOP.parts[-2:] == ("share", NAME) else [])]
+RELEASED = TOP / "release" / NAME
+# a line of PROVENANCE that names a program's bytes
+SHA = re.compile(r"^([0-9a-f]{64}) [ *](\S+)$", re.M)
+# in seconds: how long a program may take to say which one it is
+SECONDS = 10
+TO_DO = f"set {VARIABLE} to the file of the program, put {NAME} on the path, or get a clone, where release/ has it and `make build` makes it"
 REFUSAL = re.compile(r"^wfcheck: (\d+) (.*)$", re.M)
 # the statuses of an answer: a map or an acceptance, and none
 ANSWERS = (0, 1)
@@ -45,22 +56,57 @@ class Ran(NamedTuple):
 
 
 def program() -> pathlib.Path:
-    """The file of the program: what the variable WFCHECK names, else bin/wfcheck of this repository, else wfcheck on the path.
+    """The file of the program, which is the first of these: what the variable WFCHECK names; bin/wfcheck of this repository or installation;
+    release/wfcheck of this repository; `wfcheck` on the path.
 
-    Raises NoProgram if there is none."""
-    named = os.environ.get(VARIABLE)
-    if named:
-        path = pathlib.Path(named).absolute()
-        if not path.is_file():
-            raise NoProgram(f"{VARIABLE} names {named}, which is no file")
-        return path
-    built = TOP / "bin" / NAME
-    if built.is_file():
-        return built
-    found = shutil.which(NAME)
-    if not found:
-        raise NoProgram(f"bin/{NAME} is not there: `make build` leaves it, or {VARIABLE} names the program")
-    return pathlib.Path(found).absolute()
+    Raises NoProgram if there is none, and says what to do."""
+    if named := os.environ.get(VARIABLE):
+        return judged(pathlib.Path(named).absolute(), f"the variable {VARIABLE} names {named}")
+    for built in PLACES:
+        if built.is_file():
+            return built
+    if RELEASED.is_file():
+        return released(RELEASED)
+    if found := shutil.which(NAME):
+        return judged(pathlib.Path(found).absolute(), f"{found} is the first {NAME} on the path")
+    raise NoProgram(f"there is no program {NAME}: {TO_DO}")
+
+
+@functools.lru_cache(maxsize=None)
+def judged(path: pathlib.Path, why: str) -> pathlib.Path:
+    """A file that has to be the program, by what it says of itself."""
+    if not path.is_file():
+        raise NoProgram(f"{why}, which is no file: {TO_DO}")
+    try:
+        run = subprocess.run([str(path), "--version"], stdin=subprocess.DEVNULL, capture_output=True, timeout=SECONDS, check=False)
+    except (OSError, subprocess.TimeoutExpired) as error:
+        raise NoProgram(f"{why}, which can't be run ({error}): {TO_DO}") from error
+    if run.returncode:
+        told = run.stderr.decode(errors="replace").strip() or f"status {run.returncode}"
+        raise NoProgram(f"{why}, which can't be run ({told}): {TO_DO}")
+    if not run.stdout.startswith(f"{NAME} ".encode()):
+        raise NoProgram(f"{why}, which is another program: its --version does not begin with {NAME!r}")
+    return path
+
+
+@functools.lru_cache(maxsize=None)
+def released(path: pathlib.Path) -> pathlib.Path:
+    """The released program, told on standard error once, if it is the file whose SHA-256 stands in PROVENANCE."""
+    try:
+        wanted = SHA.findall(path.with_name("PROVENANCE").read_text(encoding="utf-8"))
+        found = hashlib.sha256(path.read_bytes()).hexdigest()
+    except OSError as error:
+        raise NoProgram(f"release/{NAME} can't be taken ({error}): {TO_DO}") from error
+    if (found, path.name) not in wanted:
+        raise NoProgram(f"release/{NAME} is not the file that release/PROVENANCE names, and is not run: `git checkout release` gets it back")
+    judged(path, f"the only program is release/{NAME}")
+    print(f"{NAME}: there is no bin/{NAME}, so the released program is run: {path}", file=sys.stderr)
+    return path
+
+
+def linter() -> str:
+    """The command that tells in words why a task file is refused: of this repository, or as it is installed."""
+    return "tools/lint.py" if (TOP / "tools/lint.py").is_file() else f"{NAME}-lint"
 
 
 def run(words: Sequence[Word], given: str, seconds: Optional[float] = None) -> Ran:

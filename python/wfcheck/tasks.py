@@ -36,7 +36,7 @@ class Task(NamedTuple):
 
     def simplices(self) -> List[Simplex]:
         """The input simplices in the order of their numbers. The text has to be that of a task, as the program accepts it."""
-        return simplices([tuple(map(tuple, each)) for each in json.loads(self.text)["inputs"]])
+        return simplices([[(p, v) for p, v in each] for each in json.loads(self.text)["inputs"]])
 
 
 def read(path: Union[str, "os.PathLike[str]"]) -> Task:

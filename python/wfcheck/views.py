@@ -27,6 +27,14 @@ def view_of(text: str) -> View:
     return view
 
 
+def words_of(view: View, letter: str = "p") -> str:
+    """A view as `wfcheck points` tells it. The letter is `p` for processes, and `#` for the ranks of a symmetric task."""
+    first, seen = view
+    if isinstance(seen, int):
+        return f"{letter}{first}={seen}"
+    return f"{letter}{first} saw {{{', '.join(words_of(each, letter) for each in seen)}}}"
+
+
 def view_at(text: str, at: int, same: Dict[View, View]) -> Tuple[View, int]:
     """The view that begins at a place of a text, and where it ends. Views that are equal are one object, by what is the same."""
     found = BEGIN.match(text, at)

@@ -72,4 +72,5 @@ noted; after --recheck nothing is.
 
 The status is 0 for a map, 1 for none and for never, 2 for words or a question that are refused, 3 for a question that was not decided, 130
 where it was cut off. With --branch or --share it is 0 where these branches are decided, for a map, none or never, and 3 where they are not. It
-needs the program: what the variable WFCHECK names, else bin/wfcheck, as `make build` leaves it, else wfcheck on the path."""
+needs the program: what the variable WFCHECK names, else bin/wfcheck, as `make build` leaves it, else release/wfcheck, else wfcheck on the
+path. If it is release/wfcheck, a line on standard error says so."""

@@ -48,7 +48,7 @@ class Job:
         """Where a job's words go, by what an engine calls it."""
         return f"{self.keep}/job-{name}.out"
 
-    def share(self, number: int) -> str:
+    def share(self, number: str) -> str:
         """The line that asks a share of the branches."""
         return f'exec {self.command} --share "{number}/{self.count}"'
 
@@ -70,7 +70,7 @@ def pbs(job: Job) -> str:
     """An array has two jobs or more."""
     lines = [f"-N {job.name[:15]}", f"-l select=1:ncpus=1:mem={job.memory}gb", f"-l walltime={job.clock()}", "-j oe"]
     if job.count == 1:
-        return job.script("#PBS", [*lines, f"-o {job.told(0)}"], "0")
+        return job.script("#PBS", [*lines, f"-o {job.told('0')}"], "0")
     array = [f"-J 0-{job.count - 1}%{job.count}", f"-o {job.told('^array_index^')}"]
     return job.script("#PBS", [*lines, *array], "$PBS_ARRAY_INDEX")
 

@@ -10,13 +10,13 @@ import shutil
 import sys
 import tempfile
 import threading
-from typing import Collection, Dict, List, NamedTuple, Optional, Sequence, Tuple
+from typing import Any, Collection, Dict, List, NamedTuple, Optional, Sequence, Tuple
 
 from . import arrays, pool, table
 from .cases import Cases
 from .notes import Note, Notes, Room, digest, placed
 from .pool import shown
-from .questions import WITHOUT_LINES, Answer, Attempt, Question, answered
+from .questions import SEARCH_ALONE, WITHOUT_LINES, Answer, Attempt, Question, answered
 from .runs import Clock, Late, Refused, Scope, Undecided, say
 
 STATUS = {"map": 0, "none": 1, None: 3}
@@ -34,11 +34,11 @@ class Branches:
         self.rounds, self.chosen = words.rounds[0], chosen_of(words, count)
         self.notes = Notes(words.keep)
         # what was accepted in this run, by branch
-        self.fresh = {}
+        self.fresh: Dict[int, str] = {}
         # the branches that had no end in their time
-        self.late = []
+        self.late: List[int] = []
         # the report that the parts were joined to
-        self.joined = None
+        self.joined: Optional[pathlib.Path] = None
         # while a map that another run has noted is looked at
         self.looks = threading.Lock()
 
@@ -56,7 +56,7 @@ class Branches:
             return None
         with self.room.attempt() as made:
             attempt = self.attempt(branch, made, scope)
-            by_cases = Cases(self.words, self.solver, self.room, attempt) if self.words.split else None
+            by_cases = Cases(self.words, self.solver, self.room, attempt) if self.words.split and self.solver else None
             try:
                 answer = by_cases.answer() if by_cases else self.answer(attempt)
             except Late:
@@ -151,17 +151,17 @@ class Branches:
         noted, unseen = [branch for branch in known if branch not in self.fresh], self.without_lines()
         if len(known) < self.count:
             others = "nothing is known of the others"
-            if left := [branch for branch in unseen if branch not in known]:
-                others = f"of {len(left)} others the search's answer alone, which has no lines and can't be checked again"
+            if left := sum(branch not in known for branch in unseen):
+                others = f"of {left} others the search's answer alone, which has no lines and can't be checked again"
             known_of = f"{as_noted(len(noted))}{alone(unseen, known)}"
             return f"not decided: none in {len(known)} of {self.count} branches{known_of}, and {others}", None
         if len(noted) == self.count:
             return f"none: each of {self.count} branches as noted{alone(unseen, noted)}, and not checked in this run", "none"
         fresh = [branch for branch in unseen if branch in self.fresh]
-        others = [f"{len(noted)} as noted{alone(unseen, noted)}"] * bool(noted) + [f"{len(fresh)} by {WITHOUT_LINES}"] * bool(fresh)
-        some = f"{self.count - len(noted) - len(fresh)}" if others else "each"
+        parts = [f"{len(noted)} as noted{alone(unseen, noted)}"] * bool(noted) + [f"{len(fresh)} by {WITHOUT_LINES}"] * bool(fresh)
+        some = f"{self.count - len(noted) - len(fresh)}" if parts else "each"
         accepted = f"none: {some} of {self.count} branches by a proof or a refutation that is accepted"
-        return accepted + f", the other {', and '.join(others)}" * bool(others), "none"
+        return accepted + f", the other {', and '.join(parts)}" * bool(parts), "none"
 
     def in_table(self, answer: Optional[str], known: Dict[int, str]) -> Optional[str]:
         """The answer in a table, with what it rests on where that was not checked in this run."""
@@ -172,7 +172,8 @@ class Branches:
 
     def certificate(self, answer: Optional[str]) -> Optional[table.Certificate]:
         """The report that the parts were joined to, or where there is none the certificates of all branches, or that of the map."""
-        lines, notes = self.words.table, self.notes.all(self.chosen)
+        lines: table.Table = self.words.table
+        notes = self.notes.all(self.chosen)
         if self.joined or not answer or not notes:
             return lines.of_file(self.joined) if self.joined else None
         least = next((note for note in notes.values() if note.word == "map"), None)
@@ -220,18 +221,18 @@ def alone(unseen: List[int], known: Collection[int]) -> str:
 
 class Listed(NamedTuple):
     """How many branches there are, how many points, in how many branches most of these are open, and what tells which question it is."""
-    count: int
+    branches: int
     points: int
     large: int
-    about: dict
+    about: Dict[str, Any]
 
     def is_doubtful(self) -> bool:
         """Whether most of the branches are nearly as large as the whole."""
-        return 2 * self.large > self.count > 1
+        return 2 * self.large > self.branches > 1
 
     def doubt(self) -> str:
         """Why branches may not help."""
-        return f"nearly all of the {self.points:,} points are open in {self.large} of {self.count} branches: each may take as long as the whole"
+        return f"nearly all of the {self.points:,} points are open in {self.large} of {self.branches} branches: each may take as long as the whole"
 
 
 def listed(words: argparse.Namespace) -> Listed:
@@ -299,27 +300,27 @@ def chosen_of(words: argparse.Namespace, count: int) -> Sequence[int]:
 
 def write_array(words: argparse.Namespace, solver: str, question: Listed) -> None:
     """Writes the script of an array of jobs."""
-    if not question.count:
+    if not question.branches:
         raise Refused("there is no branch, so no array is needed: ask without --array")
     if question.is_doubtful():
         print(question.doubt(), file=sys.stderr)
-    print(arrays.array(words, solver, question.count))
+    print(arrays.array(words, solver, question.branches))
 
 
 def main(words: argparse.Namespace, solver: Optional[str], clock: Clock) -> int:
     """Asks about branches, or looks at what is known of them, and returns the status."""
     question = listed(words)
     if words.array:
-        write_array(words, solver, question)
+        write_array(words, solver or SEARCH_ALONE, question)
         return 0
     with Room(None if words.looks else words.keep) as room:
-        branches = Branches(words, solver, room, question.count)
+        branches = Branches(words, solver, room, question.branches)
         if why := branches.notes.not_about(question.about, None if words.looks else room):
             raise Refused(f"{words.keep} {why}")
         rounds = "round" if branches.rounds == 1 else "rounds"
-        some = f" {len(branches.chosen)} of them in this run," if len(branches.chosen) < question.count else ""
-        known = len(branches.notes.all(branches.chosen))
-        say(f"{words.task.stem} after {branches.rounds} {rounds}, {question.count} branches,{some} {known} of them known:")
+        some = f" {len(branches.chosen)} of them in this run," if len(branches.chosen) < question.branches else ""
+        noted = len(branches.notes.all(branches.chosen))
+        say(f"{words.task.stem} after {branches.rounds} {rounds}, {question.branches} branches,{some} {noted} of them known:")
         if words.tally:
             tally(branches)
             return ended(*branches.told(branches.known()))

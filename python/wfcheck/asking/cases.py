@@ -52,7 +52,8 @@ class Cases:
     def __init__(self, words: argparse.Namespace, solver: str, room: Room, whole: Attempt) -> None:
         self.words, self.solver, self.room, self.whole = words, solver, room, whole
         # the answer of a case that has a map, and the cases that had no end in their time
-        self.map, self.late = None, []
+        self.map: Optional[Answer] = None
+        self.late: List[Case] = []
 
     def proof(self, case: Case) -> CaseProof:
         """The case proof of a case, which may not be there yet."""

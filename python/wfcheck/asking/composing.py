@@ -13,7 +13,7 @@ import collections
 import pathlib
 import re
 import shutil
-from typing import BinaryIO, Iterator, List, NamedTuple, Optional, Sequence, Tuple
+from typing import BinaryIO, Dict, Iterator, List, NamedTuple, Optional, Sequence, Set, Tuple
 
 from .runs import Clock, Refused
 
@@ -65,8 +65,9 @@ def candidates(formula: pathlib.Path, clock: Clock) -> List[List[Case]]:
     """The candidates of each point: the values that no clause excludes by itself."""
     with open(formula, "rb") as text:
         found = NUMBERS.search(b"".join(head_of(text)).decode())
+        assert found, "cnf names the points of a formula"
         values, variables = found[1].split(), int(found[2])
-        excluded = set()
+        excluded: Set[int] = set()
         while piece := text.read(PIECE):
             clock.go_on()
             excluded.update(map(int, EXCLUDED.findall(piece + text.readline())))
@@ -129,7 +130,8 @@ def literal_of(word: bytes, line: int) -> int:
 def weaken(proof: pathlib.Path, case: Case, sign: Tuple[str, float], wrote: pathlib.Path, clock: Clock) -> None:
     """Writes the case proof that a solver's proof of a case gives, up to the empty lemma, with a comment that signs it. A lemma that holds
     in the case is left out. A literal that is a lemma by itself holds for the rest of the solver's proof, so no such lemma is deleted."""
-    holds, fails, added = b"%d" % case.variable, b"-%d" % case.variable, collections.Counter()
+    holds, fails = b"%d" % case.variable, b"-%d" % case.variable
+    added: Dict[int, int] = collections.Counter()
     with open(wrote, "xb") as made:
         made.write(b"c by %s in %.2f s\n" % (sign[0].encode(errors="replace"), sign[1]))
         for is_deletion, text in steps(proof, clock):

@@ -16,7 +16,7 @@ import re
 import shutil
 import tempfile
 import time
-from typing import TYPE_CHECKING, Any, Dict, Iterable, Iterator, NamedTuple, Optional, Tuple
+from typing import TYPE_CHECKING, Any, Dict, Iterable, Iterator, NamedTuple, Optional, Set, Tuple
 
 from .runs import not_cut_off, say
 
@@ -32,7 +32,7 @@ LINE = re.compile(
     r"(?P<word>map|none), by (?P<who>.*) in (?P<taken>[\d.]+) s, "
     r"(?P<size>\d+) bytes with SHA-256 (?P<digest>[0-9a-f]{64}) in (?P<name>[^/\n]+)\n")
 # so that the names of files are read as they are written
-TEXT = {"encoding": "utf-8", "errors": "surrogateescape"}
+CODE, ERRORS = "utf-8", "surrogateescape"
 
 
 def digest(file: pathlib.Path) -> str:
@@ -102,7 +102,9 @@ def sweep(room: pathlib.Path) -> None:
 
 def placed(file: pathlib.Path, folder: pathlib.Path) -> pathlib.Path:
     """Puts a file into a folder, under its own name or the next that is free, and returns that. Where the same bytes are there they stay."""
-    for number in itertools.count(1):
+    number = 0
+    while True:
+        number += 1
         place = folder / (file.name if number == 1 else f"{file.stem}.{number}{file.suffix}")
         try:
             os.link(file, place, follow_symlinks=False)
@@ -145,9 +147,11 @@ class Notes:
         self.folder = folder
         # the SHA-256 of each certificate by what tells that it is the same, so that none is read twice; why a note is not trusted; and the
         # notes whose certificates were refused in this run
-        self.seen, self.doubts, self.refused = {}, {}, set()
+        self.seen: Dict[Tuple[int, ...], str] = {}
+        self.doubts: Dict[int, str] = {}
+        self.refused: Set[Note] = set()
         # the branches that were noted to have none
-        self.nones = set()
+        self.nones: Set[int] = set()
 
     def not_about(self, about: Dict[str, Any], room: Optional[Room]) -> Optional[str]:
         """Why the folder is not about this question, by the names and words that say which one it is; None where it is. A folder that is about
@@ -160,7 +164,7 @@ class Notes:
                     os.link(made / "question", file)
         if not file.is_file():
             return "has no notes yet: they come from runs with this folder as --keep"
-        with open(file, **TEXT) as lines:
+        with open(file, encoding=CODE, errors=ERRORS) as lines:
             found = lines.read(1 << 14)
         if found == text:
             return None
@@ -172,9 +176,12 @@ class Notes:
 
     def line_of(self, branch: int) -> Optional[Note]:
         """What is noted of a branch, whether it is to be trusted or not."""
-        with open(self.folder / f"branch-{branch}", **TEXT) as file:
+        with open(self.folder / f"branch-{branch}", encoding=CODE, errors=ERRORS) as file:
             found = LINE.fullmatch(file.read(1 << 14))
-        return Note(**{**found.groupdict(), "size": int(found["size"])}) if found else None
+        if not found:
+            return None
+        word, who, taken, size, sha, name = found.groups()
+        return Note(word, who, taken, int(size), sha, name)
 
     def of(self, branch: int) -> Optional[Note]:
         """The note of a branch; None where there is none that is to be trusted."""
@@ -230,7 +237,7 @@ class Notes:
         size, name = certificate.stat().st_size, placed(certificate, self.folder).name
         note = Note(answer.word, answer.who, f"{answer.taken:.2f}", size, digest(certificate), name)
         line, place = made / "note", self.folder / f"branch-{branch}"
-        line.write_text(note.line(), **TEXT)
+        line.write_text(note.line(), encoding=CODE, errors=ERRORS)
         try:
             os.link(line, place)
         except FileExistsError:

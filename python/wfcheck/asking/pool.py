@@ -6,7 +6,7 @@ import concurrent.futures
 import contextlib
 import functools
 import threading
-from typing import Callable, Dict, Iterable, NamedTuple, Optional
+from typing import Callable, Dict, Iterable, List, NamedTuple, Optional
 
 from . import runs
 from .questions import answered
@@ -27,7 +27,10 @@ class Kind(NamedTuple):
 
 def run(words: argparse.Namespace, kind: Kind, calls: Dict[int, Call]) -> None:
     """Makes the calls in their order, so many at once. Once one finds a map, those end that are over then, and those that are to come."""
-    todo, going, maps, over, done = iter(calls.items()), {}, [], threading.Event(), []
+    todo, over = iter(calls.items()), threading.Event()
+    going: Dict[int, Scope] = {}
+    maps: List[int] = []
+    done: List[int] = []
 
     def some() -> None:
         """Makes one call behind another, while any is left."""
@@ -65,7 +68,7 @@ def run(words: argparse.Namespace, kind: Kind, calls: Dict[int, Call]) -> None:
 
 def shown(numbers: Iterable[int]) -> str:
     """Numbers in words, those that follow one another as FIRST..LAST, up to a limit."""
-    ranges = []
+    ranges: List[List[int]] = []
     for number in numbers:
         if ranges and ranges[-1][1] == number - 1:
             ranges[-1][1] = number

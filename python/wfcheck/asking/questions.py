@@ -16,7 +16,7 @@ from .runs import Clock, Given, Late, Look, Refused, Scope, say
 
 # what one of those who are asked answers
 T = TypeVar("T")
-SEARCH = "the search"
+SEARCH, SEARCH_ALONE = "the search", "search"
 FEWER_ROUNDS = "the search after fewer rounds"
 # the share of a question's time in which a map after fewer rounds is looked for
 SHARE = 0.1
@@ -32,7 +32,7 @@ EMPTY = re.compile(rb"\n(?=\n)")
 SAYS = re.compile(rb"(?:s )?(UN)?SAT(?:ISFIABLE)?\s*")
 PLACES = {"formula": "cnf", "proof": "drat", "hints": "lrat", "output": "out"}
 # the two kinds of clausal proofs, by what their files end in, and the words by which `wfcheck proof` is told of the second
-PROOFS = {".drat": [], ".lrat": ["--lrat"]}
+PROOFS: Dict[str, List[str]] = {".drat": [], ".lrat": ["--lrat"]}
 
 
 class NoFormula(Exception):
@@ -44,7 +44,11 @@ class Answer(NamedTuple):
     word: str
     who: str
     taken: float
-    files: list
+    files: List[pathlib.Path]
+
+
+# what asks the search or a solver
+Call = Callable[[], Optional[Answer]]
 
 
 class Question:
@@ -107,7 +111,7 @@ class Attempt:
 
     def proof(self) -> Optional[pathlib.Path]:
         """The proof that a solver has written, if it has: with hints, if there are any."""
-        return next(filter(pathlib.Path.is_file, map(self.file, ("lrat", "drat"))), None)
+        return next((it for it in map(self.file, ("lrat", "drat")) if it.is_file()), None)
 
     def solve(self, wrote: pathlib.Path, *form: str) -> runs.Ended:
         """Has the search answer, and returns how it ended."""
@@ -222,7 +226,7 @@ class Attempt:
     def judged(self, name: str, taken: float) -> Optional[Answer]:
         """The answer of a solver that has ended, where it is accepted."""
         says, text = self.verdict()
-        if says == "map":
+        if says == "map" and text:
             self.tell(name, f"says map in {taken:.2f} s")
             return self.of_model(name, taken, text)
         proof = self.proof()
@@ -298,10 +302,11 @@ def answered(name: str, ask: Callable[[], Optional[T]]) -> Optional[T]:
         return None
 
 
-def first(scope: Scope, asked: Dict[str, Callable[[], Optional[Answer]]]) -> Optional[Answer]:
+def first(scope: Scope, asked: Dict[str, Call]) -> Optional[Answer]:
     """The first answer that is accepted; then the others are stopped. `asked` has a call for each name."""
     with concurrent.futures.ThreadPoolExecutor(len(asked)) as pool:
-        jobs = [pool.submit(answered, name, ask) for name, ask in asked.items()]
+        one: Callable[[str, Call], Optional[Answer]] = answered
+        jobs = [pool.submit(one, name, ask) for name, ask in asked.items()]
         try:
             for job in concurrent.futures.as_completed(jobs):
                 if answer := job.result():

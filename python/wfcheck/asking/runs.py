@@ -21,7 +21,8 @@ from ..running import TOP, program
 
 TASKS = TOP / "gallery/tasks"
 # a file that a program reads, and a call that is made again and again while it runs
-Given, Look = Union[str, pathlib.Path], Optional[Callable[[], None]]
+Given = Union[str, pathlib.Path]
+Look = Optional[Callable[[], None]]
 # how many bytes are read of what a program says
 TOLD = 1 << 20
 # a program that one of these ended was most likely ended with all of this run, which then gets the signal within a second

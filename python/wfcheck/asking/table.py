@@ -6,7 +6,7 @@ import hashlib
 import pathlib
 import re
 import sys
-from typing import Collection, NamedTuple, Optional, Union
+from typing import Collection, List, NamedTuple, Optional, Sequence, Union
 
 from .notes import Note, digest
 
@@ -17,7 +17,7 @@ EVERY, NOT_DECIDED, NOTHING = "every", "not decided", "-"
 class Certificate(NamedTuple):
     """What shows an answer: its kind, its bytes, and its SHA-256."""
     kind: str = NOTHING
-    size: object = NOTHING
+    size: Union[int, str] = NOTHING
     digest: str = NOTHING
 
 
@@ -44,11 +44,11 @@ class Table:
         if not self.file:
             return
         found = certificate or Certificate()
-        values = [re.sub(r"[\x00-\x1f]", "?", task.stem), rounds, answer or NOT_DECIDED, *found, f"{seconds:.2f}"]
+        values: List[Union[int, str]] = [re.sub(r"[\x00-\x1f]", "?", task.stem), rounds, answer or NOT_DECIDED, *found, f"{seconds:.2f}"]
         try:
             with open(self.file, "ab") as lines:
                 fcntl.flock(lines, fcntl.LOCK_EX)
-                rows = [HEADER, values] if pathlib.Path(self.file).stat().st_size == 0 else [values]
+                rows: List[Sequence[Union[int, str]]] = [HEADER, values] if pathlib.Path(self.file).stat().st_size == 0 else [values]
                 lines.write("".join("\t".join(map(str, row)) + "\n" for row in rows).encode(errors="surrogateescape"))
         except OSError as error:
             print(f"ask: --table: {error}", file=sys.stderr)

@@ -2,6 +2,8 @@
 from __future__ import annotations
 
 import argparse
+import functools
+import io
 import os
 import pathlib
 import re
@@ -13,11 +15,11 @@ import sys
 import tempfile
 from typing import Dict, List, Optional, Tuple
 
-from ..running import VARIABLE, NoProgram, program
+from ..running import VARIABLE, NoProgram, linter, program
 from . import __doc__ as about
 from . import arrays, branches, cases, fewer, never, questions, runs, table
 from .notes import Notes, Room, keep
-from .questions import FEWER_ROUNDS, PLACES, SEARCH, Answer, Attempt, Question, first
+from .questions import FEWER_ROUNDS, PLACES, SEARCH, SEARCH_ALONE, Answer, Attempt, Question, first
 from .runs import Clock, Late, Limits, Refused, Scope, Stopped, Undecided, say
 
 SOLVERS = {
@@ -32,16 +34,15 @@ HINTS = "cadical -q --no-binary --lrat {formula} {hints}"
 NO_FACTOR, SATISFIABLE = "--no-factor", 10
 # what CaDiCaL does without a word on a formula without a model, if it knows the option
 NO_MODEL, UNSATISFIABLE = "p cnf 1 2\n1 0\n-1 0\n", 20
-SEARCH_ALONE = "search"
 NO_SOLVER = "no SAT solver is on the path (Debian has the packages cadical, cryptominisat and minisat): the search alone is asked"
 REFUSED, CUT_OFF = 2, 130
 GB = 1 << 30
 
 
-def parsed(listed: List[str]) -> Tuple[argparse.ArgumentParser, argparse.Namespace]:
+def parsed(listed: List[str], name: str) -> Tuple[argparse.ArgumentParser, argparse.Namespace]:
     """The words as they stand."""
     words = argparse.ArgumentParser(
-        description=about, formatter_class=argparse.RawDescriptionHelpFormatter, usage="ask TASK ROUNDS [options]", prog="ask")
+        description=about, formatter_class=argparse.RawDescriptionHelpFormatter, usage=f"{name} TASK ROUNDS [options]", prog=name)
     words.add_argument("task")
     words.add_argument("rounds")
     words.add_argument("--solver")
@@ -64,9 +65,9 @@ def parsed(listed: List[str]) -> Tuple[argparse.ArgumentParser, argparse.Namespa
     return words, words.parse_args(listed)
 
 
-def asked(listed: List[str], command: List[str]) -> argparse.Namespace:
+def asked(listed: List[str], command: List[str], name: str) -> argparse.Namespace:
     """The words, the task's file, and the rounds in turn. The command is that by which a job asks again."""
-    words, found = parsed(listed)
+    words, found = parsed(listed, name)
     try:
         found.command = [*named_program(), *command]
         program()
@@ -76,7 +77,8 @@ def asked(listed: List[str], command: List[str]) -> argparse.Namespace:
     path = pathlib.Path(found.task)
     found.task = path if path.is_file() else runs.TASKS / f"{found.task.removesuffix('.json')}.json"
     if not found.task.is_file():
-        words.error(f"{path} is no file, and no task of gallery/tasks")
+        make = f"`wfcheck-task {path.name}` writes the file of a task of the gallery"
+        words.error(f"{path} is no file, and no task of gallery/tasks" if runs.TASKS.is_dir() else f"{path} is no file; {make}")
     rounds = re.fullmatch(r"(\d+)(?:\.\.(\d+))?", found.rounds, re.A)
     first_rounds, last = (int(rounds[1]), int(rounds[2] or rounds[1])) if rounds else (1, 0)
     if first_rounds > last:
@@ -199,7 +201,7 @@ def tried(words: List[str], text: str, limits: Limits) -> Optional[int]:
 def by_path(solver: str) -> str:
     """The words of a solver, which is named by its path: a job may have another path to look it up in."""
     name, *rest = shlex.split(solver)
-    path = str(pathlib.Path(shutil.which(name)).absolute())
+    path = str(pathlib.Path(shutil.which(name) or name).absolute())
     return " ".join(word if re.fullmatch(r"[\w./=+{}-]+", word, re.A) else shlex.quote(word) for word in [path, *rest])
 
 
@@ -208,13 +210,14 @@ def refusal(said: str, task: pathlib.Path) -> str:
     if not said.startswith("wfcheck: "):
         return said.rstrip("\n")
     about_task = re.match(r"wfcheck: (?:[1-9]|1[0-4]|18) ", said)
-    return said + (f"tools/lint.py {task} says where, in words" if about_task else 'docs/FORMAT.md, "Refusals", says what that means')
+    return said + (f"{linter()} {task} says where, in words" if about_task else 'docs/FORMAT.md, "Refusals", says what that means')
 
 
-def main(listed: List[str], command: List[str]) -> int:
-    """Asks what a list of words says, and returns the status."""
-    words = asked(listed, command)
-    sys.stdout.reconfigure(errors="backslashreplace")
+def main(listed: List[str], command: List[str], name: str = "ask") -> int:
+    """Asks what a list of words says, by a command with a name, and returns the status."""
+    words = asked(listed, command, name)
+    if isinstance(sys.stdout, io.TextIOWrapper):
+        sys.stdout.reconfigure(errors="backslashreplace")
     for end in runs.ENDING:
         # what is ignored, as after `nohup`, stays so
         if signal.getsignal(end) != signal.SIG_IGN:
@@ -303,7 +306,7 @@ def summary(answers: Dict[int, Optional[str]]) -> str:
     """What the answers by rounds come to. A map after some rounds gives one after more, so none there is none after fewer, too."""
     most = max((rounds for rounds, answer in answers.items() if answer == "none"), default=None)
     least = next((rounds for rounds, answer in answers.items() if answer == "map"), None)
-    if least == 0 or None not in (most, least) and most == least - 1:
+    if least == 0 or most is not None and least == most + 1:
         return f"from {least}"
     told = [f"none up to {most}"] * (most is not None) + [f"map at {least}"] * (least is not None)
     return ", ".join(told) or "not decided"
@@ -321,7 +324,7 @@ def decided(words: argparse.Namespace, rounds: int, solver: Optional[str], room:
         if rounds and rounds == words.rounds[0]:
             those[FEWER_ROUNDS] = attempt.by_fewer_rounds
         if solver:
-            those[shlex.split(solver)[0]] = lambda: attempt.by_solver(solver, words.clauses)
+            those[shlex.split(solver)[0]] = functools.partial(attempt.by_solver, solver, words.clauses)
         answer = first(scope, those)
         return kept(words, answer) if answer else (None, None)
 

@@ -50,10 +50,10 @@ def number(text: str) -> int:
     return int(text)
 
 
-def words() -> argparse.ArgumentParser:
-    """The command line."""
+def words(prog: str = "") -> argparse.ArgumentParser:
+    """The command line of a command of this name."""
     name = pathlib.Path(sys.argv[0]).name
-    prog = name if name == INSTALLED else "python3 -m wfcheck draw"
+    prog = prog or (name if name == INSTALLED else "python3 -m wfcheck draw")
     found = argparse.ArgumentParser(prog=prog, description=ABOUT, allow_abbrev=False)
     found.add_argument("task", metavar="TASK", help="the file of a task")
     found.add_argument("report", metavar="REPORT", nargs="?", help="a report or an obstruction that `wfcheck` wrote")

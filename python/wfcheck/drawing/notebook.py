@@ -15,10 +15,10 @@ ROUNDS, SEED = 1, 1
 
 
 def picture_of(answer: Union[Map, Refutation, Obstruction]) -> Optional[str]:
-    """An answer as SVG, or None if it is too large to draw, or the program can't be asked about its argument."""
+    """An answer as SVG. None if it is too large to draw, its task's text is none, or the program can't be asked about its argument."""
     try:
         return svg(scene_of(answer))
-    except (TooLarge, Error):
+    except (TooLarge, Error, KeyError):
         return None
 
 

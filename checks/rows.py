@@ -1,7 +1,7 @@
 #!/usr/bin/env python3
 """Runs the program on the command lines of tests/rows, and compares what it writes, tells and answers, byte for byte.
 
-    checks/rows [--program FILE] [ROW ..]     all rows, or those with these names
+    checks/rows.py [--program FILE] [ROW ..]     all rows, or those with these names
 
 A row is a folder: args (a command line's words), stdin, stdout or stdout.sha256, stderr, status, and the files that args names.
 The args may name a file of another row, as `../ROW/task.json`. What is not there is empty. All of standard error is compared, the

@@ -1,12 +1,13 @@
 #!/usr/bin/env python3
-"""Makes the man pages and the completions of shells from what the programs say with `--help`.
+"""Makes the man pages and the completions of shells from what the programs and the Python commands say with `--help`.
 
-    docs/make-manual [--program FILE]      writes docs/wfcheck.1, docs/wfverify.1, and docs/completions for bash, zsh and fish
+    docs/make_manual.py [--program FILE]      writes a page docs/*.1 for each command, and docs/completions for bash, zsh and fish
 
-All commands that `wfcheck --help` lists are taken, with all that `wfcheck COMMAND --help` says of each. `docs/make-commands` makes
+All commands that `wfcheck --help` lists are taken, with all that `wfcheck COMMAND --help` says of each. `docs/make_commands.py` makes
 docs/COMMANDS.md from the same. `checks/manual` compares the files with what is made today. The script needs bin/wfcheck, as
 `make build` leaves it, and ends with status 2 if a text can't be read. The help of wfverify stands in tests/verifier/help, with which
-`checks/verifier` compares what that program says."""
+`checks/verifier` compares what that program says. The pages of wfcheck-ask, wfcheck-draw, wfcheck-lint and wfcheck-task are made of the documents of
+their modules in python/wfcheck."""
 import collections
 import pathlib
 import re
@@ -15,6 +16,8 @@ import sys
 
 sys.path.insert(0, str(pathlib.Path(__file__).resolve().parent.parent / "checks"))
 import common  # noqa: E402
+from wfcheck import asking, linting, version, writing  # noqa: E402
+from wfcheck.drawing import main as drawing  # noqa: E402
 
 NAME = "wfcheck"
 CHECKER, SAID = "wfverify", common.ROOT / "tests/verifier"
@@ -91,7 +94,7 @@ def items(listed):
 
 def page(top, commands, version):
     """The man page."""
-    lines = ['.\\" made by docs/make-manual', f'.TH {NAME.upper()} 1 "" "{version}" "User Commands"']
+    lines = ['.\\" made by docs/make_manual.py', f'.TH {NAME.upper()} 1 "" "{version}" "User Commands"']
     lines += [".SH NAME", f"{NAME} \\- {roff(top.about[:1].lower() + top.about[1:])}", ".SH SYNOPSIS"]
     for told in commands.values():
         lines += [".PP", roff(told.usage)]
@@ -103,7 +106,8 @@ def page(top, commands, version):
             lines += [*([".PP", roff(f"{head}:")] if head != "Options" else []), *items(listed)]
         lines += [".PP", *map(roff, told.text)] if told.text else []
     lines += [".SH OPTIONS", *items(top.lists["Options"]), ".SH EXIT STATUS", *items(STATUSES)]
-    lines += [".SH SEE ALSO", roff("docs/FORMAT.md of the repository: the texts that are read and written, and every refusal. "
+    others = ", ".join(f"{roff(it)}(1)" for it in [CHECKER, *SCRIPTS])
+    lines += [".SH SEE ALSO", f"{others}.", roff("docs/FORMAT.md of the repository: the texts that are read and written, and every refusal. "
                                    "docs/ANSWERS.md: what an answer means.")]
     return "".join(f"{line}\n" for line in lines)
 
@@ -112,12 +116,54 @@ def checker_page():
     """The man page of wfverify."""
     told = read((SAID / "help/stdout").read_text(), CHECKER)
     version = (SAID / "version/stdout").read_text().split(" (")[0]
-    lines = ['.\\" made by docs/make-manual', f'.TH {CHECKER.upper()} 1 "" "{version}" "User Commands"']
+    lines = ['.\\" made by docs/make_manual.py', f'.TH {CHECKER.upper()} 1 "" "{version}" "User Commands"']
     lines += [".SH NAME", f"{CHECKER} \\- {roff(told.about[:1].lower() + told.about[1:])}", ".SH SYNOPSIS", ".PP", roff(told.usage)]
     lines += [".SH DESCRIPTION", roff(f"{told.about}."), ".PP", *map(roff, told.text)]
     lines += [".SH OPTIONS", *items(told.lists["Options"])]
     lines += [".SH SEE ALSO", roff(f"{NAME}(1). docs/FORMAT.md of the repository: the texts that are read and written, and every refusal.")]
     return "".join(f"{line}\n" for line in lines)
+
+
+# ---- the pages of the commands that are Python
+
+# each command: what it does, its usage, and the document and the words of its module
+SCRIPTS = {
+    "wfcheck-ask": ("ask a question that may be too hard for the search alone", "TASK ROUNDS [options]", asking.__doc__, None),
+    "wfcheck-draw": ("draw complexes, decision maps, refutations and obstructions", "TASK [REPORT] [options]", f"\n\n{drawing.ABOUT}", drawing.words),
+    "wfcheck-lint": ("say where a task file is refused, or what in it most likely is a slip", "[--all] TASK.json", linting.__doc__, linting.parser),
+    "wfcheck-task": ("write task files of the gallery", "[--folder FOLDER] NAME .. | --all | --list", writing.__doc__, writing.parser),
+}
+POINT, INDENTED = "  - ", "    "
+
+
+def script_page(name, about, usage, document, words):
+    """The man page of a command that is Python."""
+    lines = ['.\\" made by docs/make_manual.py', f'.TH {name.upper()} 1 "" "{NAME} {version.VERSION}" "User Commands"']
+    lines += [".SH NAME", f"{roff(name)} \\- {roff(about)}", ".SH SYNOPSIS", f"\\fB{roff(name)}\\fR {roff(usage)}", ".SH DESCRIPTION"]
+    # the first paragraph says what the page's head says
+    for part in document.split("\n\n")[1:]:
+        lines += paragraph(part.split("\n"))
+    if words:
+        lines += [".SH OPTIONS", *items((", ".join(it.option_strings) or it.metavar or it.dest, it.help) for it in words(name)._actions)]
+    lines += [".SH SEE ALSO", f"{NAME}(1), {CHECKER}(1), " + ", ".join(f"{roff(it)}(1)" for it in SCRIPTS if it != name)]
+    return "".join(f"{line}\n" for line in lines)
+
+
+def paragraph(lines):
+    """A paragraph of a document: a list with dashes, a list of words with what is said of each, or text."""
+    mark = next((it for it in (POINT, INDENTED) if lines[0].startswith(it)), None)
+    if not mark:
+        return [".PP", *map(roff, lines)]
+    listed = []
+    for line in lines:
+        if line.startswith(mark) and line[len(mark)] != " ":
+            listed.append(line.removeprefix(mark))
+        else:
+            listed[-1] += f"  {line.strip()}"
+    if mark == POINT:
+        return [it for text in listed for it in (".IP \\(bu 2", roff(" ".join(text.split())))]
+    told = (text.partition("  ") for text in listed)
+    return [*items((word, " ".join(said.split())) for word, _, said in told if said)]
 
 
 # ---- completions
@@ -126,7 +172,7 @@ def checker_page():
 def bash(top, commands):
     """Completions for bash."""
     first = " ".join([*commands, "help", *words_of(top)])
-    lines = ["# made by docs/make-manual: source this file in bash", f"_{NAME}() {{",
+    lines = ["# made by docs/make_manual.py: source this file in bash", f"_{NAME}() {{",
              "    local cur=${COMP_WORDS[COMP_CWORD]} prev=${COMP_WORDS[COMP_CWORD - 1]}", "    local words", "    COMPREPLY=()", "    if [ \"$COMP_CWORD\" -eq 1 ]; then",
              f"        mapfile -t COMPREPLY < <(compgen -W \"{first}\" -- \"$cur\")", "        return", "    fi",
              "    case ${COMP_WORDS[1]}:$prev in"]
@@ -156,7 +202,7 @@ def quoted(text):
 
 def zsh(top, commands):
     """Completions for zsh."""
-    lines = [f"#compdef {NAME}", "# made by docs/make-manual: keep this file in a folder of $fpath", ""]
+    lines = [f"#compdef {NAME}", "# made by docs/make_manual.py: keep this file in a folder of $fpath", ""]
     lines += [f"_{NAME}() {{", "    local -a commands", "    commands=("]
     lines += [f"        {quoted(name + ':' + told.about.replace(':', chr(92) + ':'))}" for name, told in commands.items()]
     lines += ["    )", "    if (( CURRENT == 2 )); then", "        _describe command commands"]
@@ -183,7 +229,7 @@ def zsh_arguments(told, indent):
 
 def fish(top, commands):
     """Completions for fish."""
-    lines = ["# made by docs/make-manual: keep this file in a folder of $fish_complete_path", f"complete -c {NAME} -f"]
+    lines = ["# made by docs/make_manual.py: keep this file in a folder of $fish_complete_path", f"complete -c {NAME} -f"]
     for name, told in commands.items():
         lines.append(f"complete -c {NAME} -n __fish_use_subcommand -a {name} -d {fish_quoted(told.about)}")
     lines += [fish_option("__fish_use_subcommand", it) for it in options(top)]
@@ -212,10 +258,11 @@ def commands():
 def made():
     """Each file, with its text."""
     top, listed = help_of(""), commands()
-    version = subprocess.run([common.program(), "--version"], capture_output=True, text=True, check=True).stdout.split(" (")[0].strip()
+    said = subprocess.run([common.program(), "--version"], capture_output=True, text=True, check=True).stdout.split(" (")[0].strip()
     docs = common.ROOT / "docs"
     return {
-        docs / f"{CHECKER}.1": checker_page(), docs / f"{NAME}.1": page(top, listed, version), docs / f"completions/{NAME}.bash": bash(top, listed),
+        docs / f"{CHECKER}.1": checker_page(), docs / f"{NAME}.1": page(top, listed, said),
+        **{docs / f"{name}.1": script_page(name, *told) for name, told in SCRIPTS.items()}, docs / f"completions/{NAME}.bash": bash(top, listed),
         docs / f"completions/_{NAME}": zsh(top, listed), docs / f"completions/{NAME}.fish": fish(top, listed),
     }
 

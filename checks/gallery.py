@@ -1,11 +1,11 @@
 #!/usr/bin/env python3
 """What theory says of the gallery's tasks, beside what the program says.
 
-    checks/gallery             each row of gallery/rows.tsv
-    checks/gallery --short     the rows that take under a second: a minute or so in all. Those whose report is long are shown to `verify` alone
-    checks/gallery --all       also the second opinion on each report, however long it takes
-    checks/gallery --files     only whether the task files are what tools/tasks.py makes
-    checks/gallery NAME..      the rows of these tasks
+    checks/gallery.py             each row of gallery/rows.tsv
+    checks/gallery.py --short     the rows that take under a second: a minute or so in all. Those whose report is long are shown to `verify` alone
+    checks/gallery.py --all       also the second opinion on each report, however long it takes
+    checks/gallery.py --files     only whether the task files are what tools/tasks.py makes
+    checks/gallery.py NAME..      the rows of these tasks
 
 A row is right where the program's answer is that of the table and doesn't contradict the theory's; points, executions and
 lines are those of the table; `wfcheck verify` accepts the report; and second_opinion.py, which shares nothing with the
@@ -323,7 +323,7 @@ def main():
         fault, note = wrong_task(name, [row for row in words.rows if row.name == name], table.get(name))
         passed, failed = passed + (not fault), failed + bool(fault)
         print(f"{name}, every number of rounds: {fault and 'FAILED: ' + fault or note}", flush=True)
-    print(f"{not_asked} reports were not shown to the second opinion: `checks/gallery --all` shows it all")
+    print(f"{not_asked} reports were not shown to the second opinion: `checks/gallery.py --all` shows it all")
     return common.ended(passed, failed)
 
 

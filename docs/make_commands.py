@@ -1,19 +1,18 @@
 #!/usr/bin/env python3
 """Makes docs/COMMANDS.md from what the program says with `--help`, from the help of wfverify, and from the table TEXTS below.
 
-    docs/make-commands [--program FILE]
+    docs/make_commands.py [--program FILE]
 
 `checks/manual` compares the page with what is made today, and runs each example. The script ends with status 1 if the
 help of a command ends without an example, or if the table has other commands."""
 import collections
-import importlib.machinery
 import pathlib
 import sys
 
 sys.path.insert(0, str(pathlib.Path(__file__).resolve().parent.parent / "checks"))
 import common  # noqa: E402
+import make_manual as manual  # noqa: E402
 
-manual = importlib.machinery.SourceFileLoader("manual", str(common.ROOT / "docs/make-manual")).load_module()
 PAGE = common.ROOT / "docs/COMMANDS.md"
 MANY = 4
 # of each command what it reads beside its words and what it writes, in Markdown
@@ -36,7 +35,7 @@ TEXTS = {
 }
 # with which the help of each command ends; a later example may read what an earlier one wrote
 EXAMPLE = "Example: "
-HEAD = """<!-- made by docs/make-commands: change that script or the program's help, and not this page -->
+HEAD = """<!-- made by docs/make_commands.py: change that script or the program's help, and not this page -->
 # Commands
 
 Each command but `preset` reads standard input. All write standard output. [FORMAT.md](FORMAT.md) describes the
@@ -57,9 +56,7 @@ ENDS = """
 statuses](../README.md#answers-and-trust) are the same for all commands. The checker alone, [wfverify](#wfverify), is a
 program of its own.
 
-`man docs/wfcheck.1` shows the man page. For completions in bash write `source docs/completions/wfcheck.bash`. For zsh
-copy [_wfcheck](completions/_wfcheck) to a folder of `$fpath`, and for fish
-[wfcheck.fish](completions/wfcheck.fish) to `~/.config/fish/completions`.
+`make install` puts man pages and completions into place.
 """
 
 

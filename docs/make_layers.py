@@ -1,7 +1,7 @@
 #!/usr/bin/env python3
 """Draws the layers of crates.txt into docs/ARCHITECTURE.md, between two remarks.
 
-    docs/make-layers
+    docs/make_layers.py
 
 A layer is what stands below one remark of crates.txt, and the highest comes first. An arrow leads from a crate to the crates that it
 stands on, without those that it reaches through another one anyway. Crates of the kit are left out. `checks/manual` compares the
@@ -15,7 +15,7 @@ import common  # noqa: E402
 import crates  # noqa: E402
 
 PAGE = common.ROOT / "docs/ARCHITECTURE.md"
-PLACE = re.compile(r"(<!-- drawn by docs/make-layers -->\n).*?(<!-- end of the drawing -->)", re.S)
+PLACE = re.compile(r"(<!-- drawn by docs/make_layers.py -->\n).*?(<!-- end of the drawing -->)", re.S)
 # the first remark of crates.txt says what its lines are
 FIRST = "A line for each crate"
 

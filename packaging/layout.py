@@ -1,0 +1,161 @@
+"""What is installed, and where: the commands, their pages, completions, the gallery, the examples, the schema and the Python module. The
+installation, the archive and the Debian package all have these files.
+
+`Mistake` is what can't be done, in a line for whoever called."""
+import hashlib
+import pathlib
+import re
+import subprocess
+import sys
+import typing
+
+sys.dont_write_bytecode = True
+ROOT = pathlib.Path(__file__).resolve().parent.parent
+BUILT, RELEASED, DIST = ROOT / "bin", ROOT / "release", ROOT / "dist"
+PROVENANCE = "PROVENANCE"
+PROGRAMS = ["wfcheck", "wfverify"]
+# each command that is Python, with the function of wfcheck.doors that it calls
+DOORS = {"wfcheck-ask": "ask", "wfcheck-draw": "draw", "wfcheck-lint": "lint", "wfcheck-task": "task"}
+COMMANDS = [*PROGRAMS, *DOORS]
+SHARE = "share/wfcheck"
+# where shells look for completions
+COMPLETIONS = {
+    "wfcheck.bash": "share/bash-completion/completions/wfcheck", "_wfcheck": "share/zsh/site-functions/_wfcheck",
+    "wfcheck.fish": "share/fish/vendor_completions.d/wfcheck.fish",
+}
+# whole folders and files below SHARE
+SHARED = ["gallery", "examples", "python/wfcheck", "python/pyproject.toml", "python/backend.py", "python/README.md", "docs/task.schema.json", "LICENSE"]
+LEFT_OUT = {"__pycache__"}
+SHA = re.compile(r"^([0-9a-f]{64}) [ *](\S+)$", re.M)
+EXECUTABLE, PLAIN = 0o755, 0o644
+DOOR = '''#!/usr/bin/env python3
+"""The command `{command}`, with the module wfcheck that was installed beside it."""
+import pathlib
+import sys
+
+sys.dont_write_bytecode = True
+sys.path.insert(0, str(pathlib.Path(__file__).resolve().parent.parent / "{share}/python"))
+from wfcheck import doors  # noqa: E402
+
+sys.exit(doors.{door}())
+'''
+
+
+class Mistake(Exception):
+    """What can't be done, in a line."""
+
+
+class File(typing.NamedTuple):
+    """A file that is installed: its bytes, and what may be done with it."""
+    data: bytes
+    mode: int = PLAIN
+
+
+def version():
+    """The version of the program."""
+    return re.search(r'VERSION = "(.*)"', (ROOT / "python/wfcheck/version.py").read_text())[1]
+
+
+def digest(data):
+    return hashlib.sha256(data).hexdigest()
+
+
+def md5(data):
+    """The sum that a Debian package lists of a file."""
+    return hashlib.md5(data).hexdigest()
+
+
+def above(path):
+    """The folders of a path, the deepest first."""
+    return [str(it) for it in pathlib.PurePosixPath(path).parents][:-1]
+
+
+def leave(name, data):
+    """Leaves a file in dist/, and lists the SHA-256 of all files of this version that are there."""
+    DIST.mkdir(exist_ok=True)
+    (DIST / f"{name}.new").write_bytes(data)
+    (DIST / f"{name}.new").replace(DIST / name)
+    mine = sorted(it for it in DIST.iterdir() if re.match(rf"wfcheck[-_]{re.escape(version())}[-_].*(\.tar\.gz|\.deb)$", it.name))
+    (DIST / "SHA256SUMS").write_text("".join(f"{digest(it.read_bytes())}  {it.name}\n" for it in mine))
+    print(f"dist/{name} has {len(data):,} bytes and the SHA-256 {digest(data)}")
+
+
+def ran(words, **how):
+    """What a command writes. Raises Mistake if it fails or is not there."""
+    try:
+        run = subprocess.run([str(it) for it in words], capture_output=True, text=True, check=False, **how)
+    except OSError as error:
+        raise Mistake(f"{words[0]} can't be run: {error.strerror}") from error
+    if run.returncode:
+        raise Mistake(f"{' '.join(map(str, words))}: {run.stderr.strip() or run.stdout.strip() or f'status {run.returncode}'}")
+    return run.stdout
+
+
+def released(name):
+    """The bytes of a released program. Raises Mistake if they are not those that PROVENANCE names."""
+    try:
+        data, said = (RELEASED / name).read_bytes(), (RELEASED / PROVENANCE).read_text()
+    except OSError as error:
+        raise Mistake(f"release/{name} can't be taken ({error.strerror}), and bin/ has not both programs: `make build verifier` makes them") from error
+    if (digest(data), name) not in SHA.findall(said):
+        raise Mistake(f"release/{name} is not the file that release/PROVENANCE names: its SHA-256 is another. `git checkout release` gets it back")
+    return data
+
+
+def judged(path):
+    """A program that was built, if it is of the version of the sources."""
+    said = ran([path, "--version"])
+    if not said.startswith(f"{path.name} {version()} "):
+        raise Mistake(f"{path.relative_to(ROOT)} is {said.strip()!r}, and the sources are {version()}: `make build` makes it anew")
+    return path.read_bytes()
+
+
+def programs(say=print):
+    """Each program with its bytes: as it was built, or if one was not built, both as they were released."""
+    if all((BUILT / name).is_file() for name in PROGRAMS):
+        say("the programs are bin/wfcheck and bin/wfverify, as they were built here")
+        return {name: judged(BUILT / name) for name in PROGRAMS}
+    missing = " and no ".join(f"bin/{name}" for name in PROGRAMS if not (BUILT / name).is_file())
+    found = {name: released(name) for name in PROGRAMS}
+    say(f"there is no {missing}, so the programs are release/wfcheck and release/wfverify, the released ones")
+    return found
+
+
+def provenance_of(binaries):
+    """What PROVENANCE says, if these are the programs that it names; else nothing."""
+    file = RELEASED / PROVENANCE
+    text = file.read_text() if file.is_file() else ""
+    return text if {(digest(data), name) for name, data in binaries.items()} <= {*SHA.findall(text)} else ""
+
+
+def below(path):
+    """The files at or below a path of the repository."""
+    if path.is_file():
+        return [path]
+    return sorted(it for it in path.rglob("*") if it.is_file() and not LEFT_OUT & {*it.parts})
+
+
+def files(binaries, provenance):
+    """Each file that is installed, by its path below the prefix."""
+    found = {f"bin/{name}": File(data, EXECUTABLE) for name, data in binaries.items()}
+    for command, door in DOORS.items():
+        found[f"bin/{command}"] = File(DOOR.format(command=command, share=SHARE, door=door).encode(), EXECUTABLE)
+    for command in COMMANDS:
+        found[f"share/man/man1/{command}.1"] = File((ROOT / f"docs/{command}.1").read_bytes())
+    for name, place in COMPLETIONS.items():
+        found[place] = File((ROOT / "docs/completions" / name).read_bytes())
+    for path in [file for it in SHARED for file in below(ROOT / it) if file.exists()]:
+        place = path.relative_to(ROOT)
+        found[f"{SHARE}/{place.name if place.parts[0] == 'docs' else place}"] = File(path.read_bytes())
+    if provenance:
+        found[f"{SHARE}/{PROVENANCE}"] = File(provenance.encode())
+    return dict(sorted(found.items()))
+
+
+def called(main):
+    """Runs what a script does, and returns its status: 2 for a mistake, which is told in a line."""
+    try:
+        return main() or 0
+    except Mistake as mistake:
+        print(f"{pathlib.Path(sys.argv[0]).name}: {mistake}", file=sys.stderr)
+        return 2

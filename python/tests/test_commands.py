@@ -1,0 +1,75 @@
+"""The commands ask, lint, task and restrict, by the doors that they have."""
+import os
+import re
+import subprocess
+
+from .support import ROOT, TASKS, Case, known, needs_program
+
+SECONDS = re.compile(r"\d+\.\d\d s")
+DOOR = "import sys\nfrom wfcheck import doors\nsys.argv[0] = 'wfcheck-{0}'\nsys.exit(doors.{0}())"
+
+
+class WithoutProgram(Case):
+    """What needs no program."""
+
+    def test_lint_by_three_doors(self):
+        """A file that is fine, one that is refused, and one that isn't there."""
+        (self.folder / "broken.json").write_text("{}")
+        for file, status in [(TASKS / "consensus-2.json", 0), ("broken.json", 2), ("nowhere.json", 2)]:
+            doors = [[ROOT / "tools/lint.py"], ["-m", "wfcheck", "lint"], ["-c", DOOR.format("lint")]]
+            ends = [self.python(*door, file) for door in doors]
+            self.assertEqual([it[0] for it in ends], [status] * 3)
+            self.assertEqual(len({re.sub("^.*: (?=\\[Errno)", "", it[1]) for it in ends}), 1, ends)
+
+    def test_task_writes_here_and_over_nothing(self):
+        door = ["-c", DOOR.format("task")]
+        self.assertEqual(self.python(*door, "consensus-2"), (0, "consensus-2.json\n"))
+        self.assertEqual((self.folder / "consensus-2.json").read_text(), known("consensus-2").text)
+        self.assertEqual(self.python(*door, "consensus-2"), (0, "consensus-2.json\n"))
+        (self.folder / "consensus-2.json").write_text("mine")
+        self.assertEqual(self.python(*door, "consensus-2"), (2, "wfcheck-task: consensus-2.json is there and says something else: it is left as it is\n"))
+        self.assertEqual((self.folder / "consensus-2.json").read_text(), "mine")
+        self.assertEqual(self.python(*door, "consensus-2", "--folder", "nowhere"), (2, "wfcheck-task: nowhere/consensus-2.json: No such file or directory\n"))
+
+    def test_task_lists_all(self):
+        status, told = self.python("-m", "wfcheck", "task", "--list")
+        self.assertEqual((status, sorted(told.split())), (0, sorted(it.stem for it in TASKS.iterdir())))
+        for words in ([], ["nothing"], ["--all", "consensus-2"]):
+            self.assertEqual(self.python("-m", "wfcheck", "task", *words)[0], 2)
+
+    def test_words_that_mean_nothing(self):
+        status, told = self.python("-m", "wfcheck")
+        self.assertEqual((status, told.split(" ")[0]), (2, "usage:"))
+        self.assertEqual(self.python("-m", "wfcheck", "--help"), (0, told))
+
+    def test_an_exception_is_no_answer(self):
+        (self.folder / "tempfile.py").write_text("raise RuntimeError('this module is broken')\n")
+        status, said = self.python("-m", "wfcheck", "ask", "consensus-2", "1", PYTHONPATH=f"{self.folder}:{ROOT / 'python'}")
+        self.assertEqual((status, "this module is broken" in said, "Traceback" in said), (3, True, False))
+
+
+@needs_program
+class Asking(Case):
+    """What asks the program."""
+
+    def test_ask_by_both_doors(self):
+        """Both say the same and have the same status, but for seconds and the command in the script of an array."""
+        given = [["consensus-2", "1"], ["renaming-3-names-5", "0..2", "--solver", "search"], ["--help"], ["nothing", "1"],
+                 ["set-agreement-3-2", "9", "--no-obstruction"]]
+        for it in given:
+            one, other = self.python(ROOT / "tools/ask", *it), self.python("-m", "wfcheck", "ask", *it)
+            self.assertEqual((other[0], SECONDS.sub("", other[1])), (one[0], SECONDS.sub("", one[1])), it)
+
+    def test_ask_as_it_is_installed(self):
+        status, told = self.python("-c", DOOR.format("ask"), "consensus-2", "1")
+        self.assertEqual((status, told.rstrip().split("\n")[-1]), (1, "consensus-2: never"))
+        self.assertRegex(self.python("-c", DOOR.format("ask"), "--help")[1], "^usage: wfcheck-ask TASK ROUNDS")
+
+    def test_a_job_asks_by_the_same_door(self):
+        question = ["set-agreement-3-2", "1", "--no-obstruction", "--solver", "search", "--keep", self.folder / "keep"]
+        status, said = self.python("-m", "wfcheck", "ask", *question, "--array", "slurm", "--jobs", "4")
+        self.assertEqual(status, 0)
+        (self.folder / "job.sh").write_text(said)
+        env = {**os.environ, "SLURM_ARRAY_TASK_ID": "1"}
+        run = subprocess.run(["sh", self.folder / "job.sh"], capture_output=True, text=True, cwd=self.folder, env=env, check=False)
+        self.assertEqual((run.returncode, "none in 16 of the 16 branches" in run.stdout), (0, True))
