@@ -5,7 +5,8 @@ use Rattle.wf_model.specs.Simplex.{Simplex}
 use Rattle.wf_model.specs.Task.{IsTask, Rule, Task, Tuple}
 use Rattle.wf_trees.specs.Balance.{IsMultiplier, Multiplier, counts_nothing, weight_of_vertices}
 use Rattle.wf_balance.specs.declared.fault.BalanceFault.{BalanceFault}
-use Rattle.wf_balance.specs.AtHand.{FitsInputs, at_hand}
+use Rattle.wf_refine.specs.AtHand.{at_hand}
+use Rattle.wf_balance.specs.AtHand.{FitsInputs}
 use Rattle.wf_balance.specs.Judge.{Judges, balance_fault, multipliers_fault, rules_fault}
 use Rattle.wf_balance.specs.Keys.{IsTestAt, weight_under}
 use Rattle.wf_balance.proofs.Faults.{multipliers_if}

@@ -10,7 +10,7 @@ use Rattle.wf_model.proofs.Headline.{each_of_map}
 use Rattle.wf_model.proofs.Tasks.{inputs_within}
 use Rattle.wf_counting.specs.Obstruction.{no_rule, rule_at}
 use Rattle.wf_task.specs.TaskSeen.{rules_seen}
-use Rattle.wf_balance.specs.AtHand.{at_hand}
+use Rattle.wf_refine.specs.AtHand.{at_hand}
 
 abbrev pub HaveInputs : List Rule → Type 0
 HaveInputs rules = AllByRecursion (λ rule. IsTaskSimplex rule.input) rules

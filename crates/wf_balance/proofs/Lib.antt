@@ -9,4 +9,3 @@ pub mod TaskKeys
 pub mod SameFaults
 pub mod RowSteps
 pub mod Answer
-pub mod OwnRows

@@ -9,7 +9,7 @@ use Rattle.wf_model.specs.Task.{Task, Tuple, inputs}
 use Rattle.wf_counting.specs.Obstruction.{same_numbers}
 use Rattle.wf_trees.specs.Alike.{are_alike}
 use Rattle.wf_trees.specs.Balance.{Multiplier, counts_nothing, counts_with, counts_without, input_of, weight_of_vertices, weight_with, weight_without}
-use Rattle.wf_balance.specs.AtHand.{at_hand}
+use Rattle.wf_refine.specs.AtHand.{at_hand}
 use Rattle.wf_balance.specs.declared.fault.BalanceFault.{BalanceFault}
 use Rattle.wf_balance.specs.declared.fault.BalanceFault.TheVariants.{SumRange, NoSimplex, NoPlace, OthersLength, WeightRange, OtherSum}
 use Rattle.wf_balance.specs.Judge.{balance_fault, multiplier_fault, multipliers_fault, rules_fault, sums_fault, unless_fault}

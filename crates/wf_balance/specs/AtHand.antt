@@ -1,11 +1,7 @@
--- Tasks at hand: a task that was read, with other tuples at its input simplices.
+-- What the checker asks of the rows of a task at hand.
 use Rattle.std.specs.Prelude.{◌≡◌, List, All, length}
 use Rattle.wf_model.specs.Task.{Task, Tuple, inputs}
-use Rattle.wf_task.specs.TaskSeen.{task_with_block}
-
--- the task with these tuples at its input simplices, in order
-abbrev pub at_hand : Task → List (List Tuple) → Task
-at_hand t rows = task_with_block t.least_block t.processes t.symmetric (inputs t) rows t.outputs
+use Rattle.wf_refine.specs.AtHand.{at_hand}
 
 -- a list of tuples for each input simplex, and in a tuple a value for each participant
 pub record FitsInputs (t : Task) (rows : List (List Tuple)) : Type 0 where

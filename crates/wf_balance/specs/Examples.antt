@@ -3,7 +3,7 @@ use Rattle.std.specs.Prelude.{◌≡◌, ℕ, [], ◌∷◌, ◌++◌, Option, N
 use Rattle.wf_model.specs.Task.{Tuple}
 use Rattle.wf_model.specs.ExampleTasks.{consensus}
 use Rattle.wf_trees.specs.KnownResults.{one_decides_0}
-use Rattle.wf_balance.specs.AtHand.{at_hand}
+use Rattle.wf_refine.specs.AtHand.{at_hand}
 use Rattle.wf_balance.specs.Judge.{balance_fault}
 use Rattle.wf_balance.specs.declared.fault.BalanceFault.{BalanceFault}
 use Rattle.wf_balance.specs.declared.fault.BalanceFault.TheVariants.{SumRange, NoSimplex, NoPlace, OthersLength, WeightRange, OtherSum, NotBalanced}

@@ -2,7 +2,6 @@
 //! simplices.
 //!
 //! - [`Balance`] and [`Multiplier`]: how often equations count. [`Others`]: the values of one.
-//! - [`rows_of`]: the tuples that the task itself allows.
 //! - [`is_balance`]: the checker, which accepts a balance and nothing else.
 //! - [`BalanceFault`]: why multipliers are no balance.
 //! - [`no_fault_exactly_if_balance`]: a law of what it answers, which no program calls.
@@ -15,7 +14,6 @@ mod key;
 mod laws;
 mod multiplier;
 mod others;
-mod rows;
 mod weights;
 
 pub use check::is_balance;
@@ -23,4 +21,3 @@ pub use fault::BalanceFault;
 pub use laws::no_fault_exactly_if_balance;
 pub use multiplier::{Balance, Multiplier};
 pub use others::Others;
-pub use rows::rows_of;

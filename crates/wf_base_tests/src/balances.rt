@@ -5,9 +5,10 @@ ghost use Rattle.std.specs.Prelude.{◌≤◌, length};
 use std::alloc::{AllocError, Global};
 use std::test::Fail;
 use wf_balance::{
-    Balance, BalanceFault, Multiplier, Others, is_balance, no_fault_exactly_if_balance, rows_of,
+    Balance, BalanceFault, Multiplier, Others, is_balance, no_fault_exactly_if_balance,
 };
 use wf_examples::CONSENSUS_2;
+use wf_refine::first_rows;
 use wf_task::Task;
 
 /// Weak symmetry breaking of three processes.
@@ -72,7 +73,7 @@ fn three_bits(alloc: Global, middle: u32) -> Result<Balance, AllocError> {
 /// What the checker says of a balance of the task of a text.
 fn judged(alloc: Global, text: &str, balance: &Balance) -> Result<Result<(), BalanceFault>, Fail> {
     let task = Task::read_text(alloc, text.as_bytes())?;
-    let rows = rows_of(alloc, &task)?;
+    let rows = first_rows(alloc, &task)?;
     Ok(is_balance(alloc, &task, &rows, balance))
 }
 

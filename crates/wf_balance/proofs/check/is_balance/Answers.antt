@@ -3,7 +3,7 @@ use Rattle.std.specs.BTreeMap.{get}
 use Rattle.std.specs.Ordering.{nat_cmp}
 use Rattle.std.proofs.lemmas.Result.{err_from_is_err_and}
 use Rattle.wf_trees.specs.Balance.{IsBalance, weight_of_vertices}
-use Rattle.wf_balance.specs.AtHand.{at_hand}
+use Rattle.wf_refine.specs.AtHand.{at_hand}
 use Rattle.wf_balance.specs.Judge.{Judges, balance_fault, multipliers_fault}
 use Rattle.wf_balance.specs.Multipliers.{multipliers_seen}
 use Rattle.wf_balance.proofs.Answer.{all_fit, judged_rows}

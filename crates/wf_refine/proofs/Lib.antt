@@ -1,0 +1,15 @@
+pub mod ForestSteps
+pub mod Ranks
+pub mod KeyLemmas
+pub mod Joining
+pub mod Membership
+pub mod PartLemmas
+pub mod Numbers
+pub mod NameSteps
+pub mod StarNames
+pub mod RowSearch
+pub mod AlikeSteps
+pub mod CaseSteps
+pub mod NamedRows
+pub mod LargestSteps
+pub mod FirstRows

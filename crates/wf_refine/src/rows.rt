@@ -1,0 +1,71 @@
+//! Rows in order, and those that a task has at first.
+
+ghost use Rattle.std.specs.Prelude.{◌≡◌, IfOk, filter, map, vec_items};
+ghost use Rattle.std.specs.Cmp.Lexicographic.{slice_cmp};
+ghost use Rattle.std.specs.Ordering.{nat_cmp};
+ghost use Rattle.wf_model.specs.Lists.{in_order};
+ghost use Rattle.wf_trees.specs.Tuples.{has_tuple};
+ghost use Rattle.wf_refine.specs.AtHand.{IsAtHand, at_hand};
+
+use std::alloc::{AllocError, Global};
+use wf_task::{Row, Task};
+
+/// The task itself as a task at hand.
+///
+/// # Errors
+///
+/// Memory ran out.
+pub fn first_rows(alloc: Global, task: &Task) -> Result<Vec<Vec<Row>>, AllocError>
+    ensures same { IfOk result (λ rows. at_hand task.now (map vec_items rows.items) ≡ task.now) }
+    ensures at_hand { IfOk result (λ rows. IsAtHand task.now (map vec_items rows.items)) }
+{
+    let count = task.inputs().simplices().len();
+    let mut rows = Vec::with_capacity(alloc, count)?;
+    'simplices: for simplex in 0..count {
+        rows.push_reserved(copied(alloc, task.tuples(simplex as u32))?);
+    }
+    Ok(rows)
+}
+
+/// Whether the row is one of these, which are in order; by binary search.
+pub(crate) fn has_row(rows: &[Row], row: &Row) -> bool
+    requires { in_order (slice_cmp nat_cmp) rows.now ≡ rows.now }
+    ensures { result ≡ has_tuple rows.now row.now }
+{
+    rows.binary_search(row).is_ok()
+}
+
+/// The rows that are among others, both in order.
+pub(crate) fn rows_among(
+    alloc: Global,
+    rows: &[Row],
+    others: &[Row],
+) -> Result<Vec<Row>, AllocError>
+    requires { in_order (slice_cmp nat_cmp) others.now ≡ others.now }
+    ensures { IfOk result (λ kept. kept.items ≡ filter (has_tuple others.now) rows.now) }
+{
+    let mut kept = Vec::new(alloc);
+    'rows: for row in rows {
+        if has_row(others, row) {
+            kept.push(*row)?;
+        }
+    }
+    Ok(kept)
+}
+
+/// The rows once more.
+pub(crate) fn copied(alloc: Global, rows: &[Row]) -> Result<Vec<Row>, AllocError>
+    ensures { IfOk result (λ copy. copy.items ≡ rows.now) }
+{
+    rows.iter().copied().collect(alloc)
+}
+
+/// The rows in order, each once.
+pub fn ascending(rows: Vec<Row>) -> Vec<Row>
+    ensures { result.items ≡ in_order (slice_cmp nat_cmp) rows.items }
+{
+    let mut once = rows;
+    once.sort_unstable();
+    once.dedup();
+    once
+}

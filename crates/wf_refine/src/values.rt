@@ -1,0 +1,46 @@
+//! The values of a task at hand.
+
+ghost use Rattle.std.specs.Prelude.{◌≡◌, ◌≤◌, flat_map, length, map, vec_items};
+ghost use Rattle.wf_model.specs.Task.{inputs};
+ghost use Rattle.wf_trees.specs.Trees.{largest, new_name};
+ghost use Rattle.wf_refine.specs.AtHand.{at_hand};
+ghost use Rattle.wf_refine.specs.Names.{first_new};
+
+use wf_task::{Row, Task};
+
+/// The first name above all values of the tuples of a task at hand.
+pub fn new_name(task: &Task, rows: &[Vec<Row>]) -> u32
+    requires { length rows.now ≡ length (inputs task.now) }
+    ensures name { result ≡ new_name (at_hand task.now (map vec_items rows.now)) }
+    ensures few { result ≤ first_new }
+{
+    // for the proof alone, which reads that the rows are those of the task's inputs
+    let _ = task.processes();
+    let mut most = 0;
+    'simplices: for tuples in rows {
+        most = largest_of(tuples).max(most);
+    }
+    u32::from(most) + 1
+}
+
+/// The largest value of some tuples; 0 if there is none.
+fn largest_of(rows: &[Row]) -> u8
+    ensures { result ≡ largest (flat_map (λ tuple. tuple) rows.now) }
+{
+    let mut most = 0;
+    'rows: for row in rows {
+        most = largest_in(row.as_slice()).max(most);
+    }
+    most
+}
+
+/// The largest of some values; 0 if there is none.
+fn largest_in(values: &[u8]) -> u8
+    ensures { result ≡ largest values.now }
+{
+    let mut most = 0;
+    'values: for value in values {
+        most = (*value).max(most);
+    }
+    most
+}
