@@ -11,7 +11,7 @@ from typing import Collection, List, NamedTuple, Optional, Sequence, Union
 from .notes import Note, digest
 
 HEADER = ["task", "rounds", "answer", "certificate", "bytes", "sha256", "seconds"]
-EVERY, NOT_DECIDED, NOTHING = "every", "not decided", "-"
+EVERY, NOT_DECIDED, REFUSED, NOTHING = "every", "not decided", "refused", "-"
 
 
 class Certificate(NamedTuple):
