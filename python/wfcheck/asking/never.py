@@ -72,7 +72,8 @@ def is_accepted(words: argparse.Namespace, file: pathlib.Path, scope: Scope, clo
     accepted = ended.status == 0 and ended.said.strip() == ACCEPTED
     say(f"    wfcheck verify: {ACCEPTED if accepted else ended.why()} ({ended.taken:.2f} s)")
     if accepted:
-        words.given.close()
+        if words.by_branch:
+            words.given.close()
         say(f"    never: no map after any number of rounds (obstruction {in_words(file)})")
     return accepted
 

@@ -168,8 +168,8 @@ class Child:
 
 
 def not_waiting(path: str, flags: int) -> int:
-    """Opens a file for reading, without waiting where it is a pipe."""
-    return os.open(path, flags | os.O_NONBLOCK)
+    """Opens a file, without waiting where it is a pipe."""
+    return os.open(path, flags | os.O_NONBLOCK, 0o666)
 
 
 def limited(limits: Limits) -> Callable[[], None]:
