@@ -48,7 +48,7 @@ def parsed(listed: List[str], name: str) -> Tuple[argparse.ArgumentParser, argpa
     """The words as they stand."""
     words = argparse.ArgumentParser(
         description=about, formatter_class=argparse.RawDescriptionHelpFormatter, usage=f"{name} TASK .. ROUNDS [options]", prog=name)
-    words.add_argument("given", nargs="*")
+    words.add_argument("given", nargs="*", metavar="TASK .. ROUNDS", help=argparse.SUPPRESS)
     words.add_argument("--solver")
     words.add_argument("--seconds", type=float, default=60)
     words.add_argument("--clauses", type=int, default=20_000_000)
