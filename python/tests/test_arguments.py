@@ -63,7 +63,7 @@ class Arguments(Case):
         """Of another kind, or not there: an error at once, which is an `Error` and an OSError."""
         os.mkfifo(self.folder / "pipe")
         (self.folder / "bytes").write_bytes(b"\xff")
-        for name, said in {"nowhere": "No such file", "pipe": "no regular file", ".": "no regular file", "bytes": "utf-8", "a\0b": "null"}.items():
+        for name, said in {"nowhere": "No such file", "pipe": "no regular file", ".": "Is a directory", "bytes": "utf-8", "a\0b": "null"}.items():
             self.fails(wfcheck.NoFile, f"can't be read: .*{said}", wfcheck.read, f"{self.folder}/{name}")
         self.assertTrue(issubclass(wfcheck.NoFile, wfcheck.Error) and issubclass(wfcheck.NoFile, OSError) and issubclass(wfcheck.Mistake, wfcheck.Error))
         self.fails(wfcheck.NoFile, "can't be written: No such file", wfcheck.write, known("consensus-2"), self.folder / "nowhere")
