@@ -68,6 +68,8 @@ def wrong(run, text, moduli, having=None):
         ran = run(["obstruction", "--modulus", str(modulus)], text)
         if fault := wrong_modulus(task, modulus, found, ran):
             return f"modulo {modulus}: {fault}"
+    if having is not None and (least := finding.find_any(task)[0]) != having[0]:
+        return f"oracle/finding.py finds an obstruction modulo {least}, and not modulo {having[0]}"
     return wrong_whole(task, run(["obstruction"], text))
 
 

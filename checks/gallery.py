@@ -53,7 +53,7 @@ SAME_BYTES = True
 def wrong_task(name, its_rows, row):
     """What is wrong with what is known of a task for every number of rounds, or None; and what there is to say of it."""
     answers = {each.rounds: each.answer.split(",")[0] for each in its_rows}
-    proved = "never" if row else asking.summary(answers)
+    proved = "never" if row else str(asking.summary(answers))
     if proved != its_rows[0].proved:
         return f"the table says that {its_rows[0].proved!r} is proved here, and it is {proved!r}", ""
     path, file = common.task_file(name), common.ANSWERS / f"{name}.obstruction"

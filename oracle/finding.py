@@ -1,14 +1,14 @@
 #!/usr/bin/env python3
 """finding.py TASK MODULUS: an obstruction of the task modulo a prime or a power of a prime, straight from the definition, and slowly.
-finding.py TASK: whether any modulus has one.
+finding.py TASK: one modulo the least prime or power of a prime that has one.
 
 It shares nothing with the program, and is for small tasks. Each tuple that the task does not allow has an unknown weight. Each face and
 each choice of values there is an equation: the terms there have the sum 0, but those of the empty face have a sum S, and S is not 0.
 Elimination finds such weights wherever there are any.
 
 It answers as `wfcheck obstruction` does: it writes the obstruction, and ends with status 0; or it says `no obstruction modulo M`, or
-`no obstruction for any modulus`, and ends with status 1. Without a modulus it writes no obstruction, but says `some modulus has an
-obstruction`. Status 2: the words or the task are refused."""
+`no obstruction for any modulus`, and ends with status 1. Without a modulus it first looks for whole numbers that show that no modulus has
+one. If there are none, some modulus has one, and so has a power of one of its primes. Status 2: the words or the task are refused."""
 import argparse
 import collections
 import itertools
@@ -96,6 +96,13 @@ def find(task, modulus):
     return None
 
 
+def find_any(task):
+    """The least prime or power of a prime that has an obstruction, with its sum and its weighted tuples; None if no modulus has one."""
+    if has_integers(task):
+        return None
+    return next((modulus, found) for modulus in filter(is_prime_power, itertools.count(2)) if (found := find(task, modulus)))
+
+
 def text_of(task, modulus, found):
     """The text of an obstruction."""
     total, tuples = found
@@ -178,13 +185,13 @@ def main():
     if task.get("first_block", 1) > 1:
         words.error("a task with a first block above 1 has no obstruction")
     if asked.modulus is None:
-        print("no obstruction for any modulus" if has_integers(task) else "some modulus has an obstruction", file=sys.stderr)
-        return 1 if has_integers(task) else 0
-    found = find(task, asked.modulus)
+        modulus, found = find_any(task) or (None, None)
+    else:
+        modulus, found = asked.modulus, find(task, asked.modulus)
     if not found:
-        print(f"no obstruction modulo {asked.modulus}", file=sys.stderr)
+        print(f"no obstruction {'for any modulus' if modulus is None else f'modulo {modulus}'}", file=sys.stderr)
         return 1
-    print(text_of(task, asked.modulus, found), end="")
+    print(text_of(task, modulus, found), end="")
     return 0
 
 

@@ -37,6 +37,16 @@ class WithoutProgram(Case):
         for words in ([], ["nothing"], ["--all", "consensus-2"]):
             self.assertEqual(self.python("-m", "wfcheck", "task", *words)[0], 2)
 
+    def test_finding_without_a_modulus(self):
+        """The oracle writes an obstruction modulo the least modulus that has one, or says that no modulus has one."""
+        for task, modulus in [("consensus-2", 2), ("modulo-4-alone", 4), ("modulo-4", 3), ("modulo-9-symmetric", 2)]:
+            file = next(it for it in (TASKS / f"{task}.json", ROOT / f"tests/obstructions/{task}.json") if it.is_file())
+            status, text = self.python(ROOT / "oracle/finding.py", file)
+            self.assertEqual((status, text.split("\n")[3]), (0, f"modulus {modulus}"))
+            (self.folder / "found").write_text(text)
+            self.assertEqual(self.python(ROOT / "oracle/obstructions.py", file, self.folder / "found")[0], 0)
+        self.assertEqual(self.python(ROOT / "oracle/finding.py", TASKS / "renaming-2-names-3.json"), (1, "no obstruction for any modulus\n"))
+
     def test_words_that_mean_nothing(self):
         status, told = self.python("-m", "wfcheck")
         self.assertEqual((status, told.split(" ")[0]), (2, "usage:"))
@@ -63,7 +73,7 @@ class Asking(Case):
     def test_ask_as_it_is_installed(self):
         status, told = self.python("-c", DOOR.format("ask"), "consensus-2", "1")
         self.assertEqual((status, told.rstrip().split("\n")[-1]), (1, "consensus-2: never"))
-        self.assertRegex(self.python("-c", DOOR.format("ask"), "--help")[1], "^usage: wfcheck-ask TASK ROUNDS")
+        self.assertRegex(self.python("-c", DOOR.format("ask"), "--help")[1], "^usage: wfcheck-ask TASK .. ROUNDS")
 
     def test_a_job_asks_by_the_same_door(self):
         question = ["set-agreement-3-2", "1", "--no-obstruction", "--solver", "search", "--keep", self.folder / "keep"]

@@ -42,7 +42,7 @@ class Tasks(Case):
             "no value that may be decided": ("a", 1, one, fair, []), "an input is of process 1": ("a", 1, [(0, 1)], fair, zero),
             "no input": ("a", 1, [], fair, zero), "the value 64": ("a", 1, [(64,)], fair, zero), "inputs are a list": ("a", 1, zero, fair, zero),
             "65 input vertices": ("a", 1, [(it,) for it in range(65)], fair, zero, False, 1),
-            "70784 value lists": ("a", 3, [(0, 0, 0), (1, 0, 0)], fair, range(32)),
+            "more than 65536 value lists": ("a", 3, [(0, 0, 0), (1, 0, 0)], fair, range(32)),
             "a first block is 1 to 4": ("a", 1, one, fair, zero, False, 5),
             "is a set, which has no order": ("a", 2, [{0, 1}], fair, zero), "has 1 of 2 values": ("a", 2, [(0,)], fair, zero),
         }

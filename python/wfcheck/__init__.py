@@ -13,8 +13,10 @@ import sys
 
 try:
     from .answers import Answer, Branching, Closed, Map, Obstruction, Proof, Refutation, Step, Taken, Weighted
-    from .running import Error, NoAnswer, NoProgram, Refused
-    from .questions import decide, explain, obstruction, points, solve, trim, verify
+    from .running import Error, NoAnswer, NoFile, NoProgram, Refused
+    from .deciding import ask, decide
+    from .outcomes import Between, From, MapAt, Never, NoneUpTo, NotDecided
+    from .questions import explain, obstruction, points, solve, trim, verify
     from .tasks import Mistake, Task, read, restrict, task, write
     from .version import VERSION as __version__
     from .views import View
@@ -26,7 +28,7 @@ except Exception as error:
     raise
 
 __all__ = [
-    "Answer", "Branching", "Closed", "Error", "Map", "Mistake", "NoAnswer", "NoProgram", "Obstruction", "Proof", "Refutation", "Refused",
-    "Step", "Taken", "Task", "View", "Weighted", "decide", "explain", "obstruction", "points", "read", "restrict", "solve", "task",
+    "Answer", "Between", "Branching", "Closed", "Error", "From", "Map", "MapAt", "Mistake", "Never", "NoAnswer", "NoFile", "NoProgram",
+    "NoneUpTo", "NotDecided", "Obstruction", "Proof", "Refutation", "Refused", "Step", "Taken", "Task", "View", "Weighted", "ask", "decide", "explain", "obstruction", "points", "read", "restrict", "solve", "task",
     "__version__", "trim", "verify", "write",
 ]

@@ -47,18 +47,18 @@ def numbers(text: str) -> List[int]:
 def restricted(listed: List[str]) -> int:
     """Reads a task, and writes that of some of its processes."""
     from .running import linter
-    from .tasks import Mistake, Task, restrict
+    from .tasks import Mistake, NoTask, Task, restrict
     words = argparse.ArgumentParser(prog="python3 -m wfcheck restrict", description="Reads a task on standard input, and writes the task of some "
                                     "processes alone: the first of them is process 0 there, the next process 1, and so on.")
     words.add_argument("--processes", required=True, type=numbers, metavar="P,..", help="the processes, such as 0,2")
     kept = words.parse_args(listed).processes
     try:
         sys.stdout.write(restrict(Task("task", sys.stdin.read()), kept).text)
+    except (NoTask, UnicodeDecodeError):
+        print(f"restrict: what is read is no task: {linter()} FILE says where it is wrong", file=sys.stderr)
+        return REFUSED
     except Mistake as mistake:
         print(f"restrict: {mistake}", file=sys.stderr)
-        return REFUSED
-    except (AttributeError, LookupError, RecursionError, TypeError, ValueError):
-        print(f"restrict: what is read is no task: {linter()} FILE says where it is wrong", file=sys.stderr)
         return REFUSED
     return 0
 

@@ -49,17 +49,22 @@ class Weighted(NamedTuple):
     weight: int
 
 
-@dataclasses.dataclass(frozen=True)
+@dataclasses.dataclass(frozen=True, repr=False)
 class Map:
     """A decision map: the value that is decided at each view, after so many rounds.
 
     The views are in the order of their points. `steps` are those that show that no map is smaller, if that was asked for. `report` is
     the text, which `verify` accepts."""
-    task: Task = dataclasses.field(repr=False)
+    task: Task
     rounds: int
     values: Dict[View, int]
-    steps: Tuple[Step, ...] = dataclasses.field(repr=False)
-    report: str = dataclasses.field(repr=False)
+    steps: Tuple[Step, ...]
+    report: str
+
+    def __repr__(self) -> str:
+        decided = sorted({*self.values.values()})
+        values = f"values {decided[0]} to {decided[-1]}" if decided else "no value"
+        return f"<Map of {self.task!r} after {in_rounds(self.rounds)}: {len(self.values):,} views, {values}>"
 
     def _repr_svg_(self) -> Optional[str]:
         """The answer as a picture, where a notebook shows it."""
@@ -74,14 +79,17 @@ class Map:
         return (self._repr_svg_() or "") + table(title, ("view", "value"), rows, len(self.values) - len(rows), "views")
 
 
-@dataclasses.dataclass(frozen=True)
+@dataclasses.dataclass(frozen=True, repr=False)
 class Refutation:
     """There is no decision map after so many rounds, with the steps that show it. `report` is the text, which `verify` accepts; without
     steps it is the program's answer alone, and is not accepted."""
-    task: Task = dataclasses.field(repr=False)
+    task: Task
     rounds: int
-    steps: Tuple[Step, ...] = dataclasses.field(repr=False)
-    report: str = dataclasses.field(repr=False)
+    steps: Tuple[Step, ...]
+    report: str
+
+    def __repr__(self) -> str:
+        return f"<Refutation of {self.task!r} after {in_rounds(self.rounds)}: {len(self.steps):,} steps>"
 
     def _repr_svg_(self) -> Optional[str]:
         """The answer as a picture, where a notebook shows it."""
@@ -95,25 +103,32 @@ class Refutation:
         return (self._repr_svg_() or "") + table(title, ("step", "what it says"), rows, len(self.steps) - len(rows), "steps")
 
 
-@dataclasses.dataclass(frozen=True)
+@dataclasses.dataclass(frozen=True, repr=False)
 class Proof:
     """There is no decision map after so many rounds, by a SAT solver's clausal proof, which `wfcheck proof` accepts: with hints (LRAT), or
     without."""
-    task: Task = dataclasses.field(repr=False)
+    task: Task
     rounds: int
-    text: str = dataclasses.field(repr=False)
+    text: str
     has_hints: bool = False
 
+    def __repr__(self) -> str:
+        hints = "with hints" if self.has_hints else "without hints"
+        return f"<Proof about {self.task!r} after {in_rounds(self.rounds)}: {len(self.text):,} bytes, {hints}>"
 
-@dataclasses.dataclass(frozen=True)
+
+@dataclasses.dataclass(frozen=True, repr=False)
 class Obstruction:
     """There is no decision map after any number of rounds. Whatever is decided, the weights of the tuples that occur add up to `sum`
     modulo `modulus`, and that is not 0. `text` is what `verify` accepts."""
-    task: Task = dataclasses.field(repr=False)
+    task: Task
     modulus: int
     sum: int
     tuples: Tuple[Weighted, ...]
-    text: str = dataclasses.field(repr=False)
+    text: str
+
+    def __repr__(self) -> str:
+        return f"<Obstruction of {self.task!r}: {len(self.tuples):,} tuples, the sum {self.sum} modulo {self.modulus}>"
 
     def _repr_svg_(self) -> Optional[str]:
         """The answer as a picture, where a notebook shows it."""

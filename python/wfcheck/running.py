@@ -33,6 +33,10 @@ class NoProgram(Error):
     """The program is not there, or can't be run."""
 
 
+class NoFile(Error, OSError):
+    """A file can't be read or written, or is no text."""
+
+
 class Refused(Error):
     """What the program refuses, by the number of the refusal and its words, as docs/FORMAT.md lists them."""
 

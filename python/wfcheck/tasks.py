@@ -13,6 +13,9 @@ import os
 import pathlib
 from typing import AbstractSet, Any, Callable, Dict, Iterable, Iterator, List, Mapping, NamedTuple, Optional, Sequence, Set, Tuple, Union
 
+from . import files
+from .running import Error, NoFile
+
 # those that take part with a value each, by ascending process
 Simplex = Tuple[Tuple[int, int], ...]
 # what the processes that take part begin with and decide, by process
@@ -22,11 +25,17 @@ Input = Union[Sequence[int], Mapping[int, int]]
 MOST_PROCESSES, LARGEST, LARGEST_PLAIN = 4, 255, 63
 # how many bytes of a file are read, how many tuples it may have, and how many of what else
 LONGEST, MOST_TUPLES = 16_777_216, 65536
+# how much of a name is shown
+SHOWN = 60
 MOST = {"input vertices": 64, "input simplices, with their faces": 4096, "listed outputs": 65536, "value lists": MOST_TUPLES}
 
 
-class Mistake(ValueError):
+class Mistake(Error, ValueError):
     """What a task can't be made from, in a sentence."""
+
+
+class NoTask(Mistake):
+    """A text that is none of a task."""
 
 
 class Task(NamedTuple):
@@ -34,22 +43,44 @@ class Task(NamedTuple):
     name: str
     text: str
 
+    def __repr__(self) -> str:
+        name = repr(self.name)
+        return f"<Task {name if len(name) <= SHOWN else name[:SHOWN] + '..'}, {len(self.text):,} bytes>"
+
     def simplices(self) -> List[Simplex]:
         """The input simplices in the order of their numbers. The text has to be that of a task, as the program accepts it."""
         return simplices([[(p, v) for p, v in each] for each in json.loads(self.text)["inputs"]])
 
 
 def read(path: Union[str, "os.PathLike[str]"]) -> Task:
-    """The task of a file, as it stands there: whether it is one is said by the program."""
+    """The task of a file, as it stands there: whether it is one is said by the program. Raises NoFile if the file can't be read."""
+    if not isinstance(path, (str, os.PathLike)):
+        raise TypeError(f"a file is named by a string or a path, and not by {path!r}")
     file = pathlib.Path(path)
-    return Task(file.name.removesuffix(".json"), file.read_text(encoding="utf-8"))
+    try:
+        with files.opened(file) as text:
+            return Task(file.name.removesuffix(".json"), text.read().decode("utf-8"))
+    except (OSError, ValueError) as error:
+        raise NoFile(f"{file} can't be read: {told(error)}") from error
 
 
 def write(made: Task, folder: Union[str, "os.PathLike[str]"] = ".") -> pathlib.Path:
-    """Writes the file of a task into a folder, and returns its path."""
+    """Writes the file of a task into a folder, and returns its path. Raises Mistake if its name is none of a file, and NoFile if the file
+    can't be written."""
+    if not isinstance(made, Task) or not isinstance(made.text, str):
+        raise TypeError(f"a task is what `task` or `read` returns, and not {made!r}")
+    judge_name(made.name)
     path = pathlib.Path(folder) / f"{made.name}.json"
-    path.write_text(made.text, encoding="utf-8")
+    try:
+        path.write_bytes(made.text.encode("utf-8"))
+    except (OSError, ValueError) as error:
+        raise NoFile(f"{path} can't be written: {told(error)}") from error
     return path
+
+
+def told(error: Exception) -> str:
+    """What an error says, without the file's name."""
+    return str(error.strerror or error) if isinstance(error, OSError) else str(error)
 
 
 def faces(items: Sequence[Any]) -> List[Tuple[Any, ...]]:
@@ -79,13 +110,24 @@ def task(name: str, processes: int, inputs: Iterable[Input], legal: Legal, value
     take part, or all of them; 1 leaves all words.
 
     Raises Mistake where there is no such task, and where its file would be too large to be read."""
+    if not callable(legal) or not (partial is None or callable(partial)):
+        raise TypeError("a predicate is a function of two dictionaries, `start` and `end`")
+    if type(symmetric) is not bool:
+        raise TypeError(f"symmetric is True or False, and not {symmetric!r}")
     try:
         listed = [pairs_of(name, processes, each) for each in inputs]
         several = set(values)
     except TypeError as error:
         raise Mistake(f"{name}: inputs are a list of lists or dictionaries, and values a list of numbers ({error})") from error
     judge(name, processes, listed, several, first_block)
-    rules = {start: tuples(name, start, legal, choices(name, start, several, partial)) for start in simplices(listed)}
+    starts = simplices(listed)
+    judge_number(name, "input vertices", sum(len(start) == 1 for start in starts))
+    judge_number(name, "input simplices, with their faces", len(starts))
+    rules: Dict[Simplex, List[Tuple[int, ...]]] = {}
+    left = MOST_TUPLES
+    for start in starts:
+        rules[start] = tuples(name, start, legal, choices(name, start, several, partial), left)
+        left -= len(rules[start])
     if not any(rules.values()):
         raise Mistake(f"{name}: the predicate allows nothing, whatever the processes begin with")
     whole: Dict[str, Any] = {"version": 1} if first_block is None else {"version": 2, "first_block": first_block}
@@ -120,8 +162,22 @@ def restrict(made: Task, processes: Iterable[int]) -> Task:
     A decision map of the whole task is one of this task in the executions in which these processes alone take part. So if this task has
     none after some rounds, the whole has none after as many. The text of the whole has to be that of a task, as the program accepts it.
 
-    Raises Mistake where no process is named, one that the task has not, or where no input is of these processes alone."""
-    named, whole = [*processes], json.loads(made.text)
+    Raises Mistake where no process is named, one that the task has not, or where no input is of these processes alone; and NoTask, a
+    Mistake, if the text is none of a task."""
+    if not isinstance(made, Task) or not isinstance(made.text, str):
+        raise TypeError(f"a task is what `task` or `read` returns, and not {made!r}")
+    named = [*processes]
+    try:
+        return restricted(made, named)
+    except Mistake:
+        raise
+    except (AttributeError, LookupError, RecursionError, TypeError, ValueError) as error:
+        raise NoTask(f"{made.name}: the text is that of no task") from error
+
+
+def restricted(made: Task, named: Sequence[int]) -> Task:
+    """The task of some processes alone."""
+    whole = json.loads(made.text)
     strangers = [it for it in named if type(it) is not int or it not in range(whole["processes"])]
     if strangers or not named:
         told = f"and not {strangers[0]!r}" if strangers else "and none is named"
@@ -147,7 +203,8 @@ def judge(name: str, processes: int, listed: Sequence[Simplex], values: Set[int]
     """Refuses what no task file may have."""
     if type(processes) is not int or not 1 <= processes <= MOST_PROCESSES:
         raise Mistake(f"{name}: a task has 1 to {MOST_PROCESSES} processes, and not {processes!r}")
-    if not isinstance(name, str) or not name or pathlib.PurePath(name).name != name or name.endswith(".json"):
+    judge_name(name)
+    if name.endswith(".json"):
         raise Mistake(f"{name}: a name is that of the file, without a folder and without .json")
     if not values:
         raise Mistake(f"{name}: there is no value that may be decided")
@@ -161,6 +218,12 @@ def judge(name: str, processes: int, listed: Sequence[Simplex], values: Set[int]
     judge_values(name, [*values, *(v for simplex in listed for _, v in simplex)], LARGEST_PLAIN if first_block is None else LARGEST)
 
 
+def judge_name(name: str) -> None:
+    """Refuses a name that is none of a file, as one that leads to another folder."""
+    if not isinstance(name, str) or not name or pathlib.PurePath(name).name != name or "\0" in name or name == "..":
+        raise Mistake(f"{name!r}: a name is that of the file, without a folder and without .json")
+
+
 def judge_values(name: str, values: Iterable[int], largest: int) -> None:
     """Refuses values that are none, or too large."""
     beyond = [v for v in values if type(v) is not int or not 0 <= v <= largest]
@@ -171,13 +234,16 @@ def judge_values(name: str, values: Iterable[int], largest: int) -> None:
 
 def judge_sizes(name: str, rules: Dict[Simplex, List[Tuple[int, ...]]], text: str) -> None:
     """Refuses a task that is too large to be read."""
-    outputs = len(json.loads(text)["outputs"])
-    found = [sum(len(start) == 1 for start in rules), len(rules), outputs, sum(map(len, rules.values()))]
-    for many, (what, most) in zip(found, MOST.items()):
-        if many > most:
-            raise Mistake(f"{name}: there are {many} {what}, and at most {most} are read")
+    judge_number(name, "listed outputs", len(json.loads(text)["outputs"]))
+    judge_number(name, "value lists", sum(map(len, rules.values())))
     if len(text) > LONGEST:
         raise Mistake(f"{name}: the file has more than {LONGEST} bytes")
+
+
+def judge_number(name: str, what: str, many: int) -> None:
+    """Refuses more of something than are read."""
+    if many > MOST[what]:
+        raise Mistake(f"{name}: there are {many} {what}, and at most {MOST[what]} are read")
 
 
 def choices(name: str, start: Simplex, values: Set[int], partial: Optional[Legal]) -> Iterator[Tuple[int, ...]]:
@@ -196,16 +262,17 @@ def choices(name: str, start: Simplex, values: Set[int], partial: Optional[Legal
     return longer(())
 
 
-def tuples(name: str, start: Simplex, legal: Legal, offered: Iterable[Tuple[int, ...]]) -> List[Tuple[int, ...]]:
-    """Those of the choices that are legal: the values that those who take part may decide, in the order of the processes."""
+def tuples(name: str, start: Simplex, legal: Legal, offered: Iterable[Tuple[int, ...]], left: int) -> List[Tuple[int, ...]]:
+    """Those of the choices that are legal: the values that those who take part may decide, in the order of the processes. No more are read than
+    so many are left, so the predicate is not asked on."""
     processes = [p for p, _ in start]
     found = []
     for choice in offered:
         if is_legal(name, legal, dict(start), dict(zip(processes, choice))):
             found.append(choice)
-        if len(found) > MOST_TUPLES:
-            raise Mistake(f"{name}: where the processes begin with {dict(start)} more than {MOST_TUPLES} choices are legal, and no more "
-                          "are read")
+        if len(found) > left:
+            raise Mistake(f"{name}: there are more than {MOST_TUPLES} value lists, and no more are read: that is passed where the processes "
+                          f"begin with {dict(start)}")
     return found
 
 

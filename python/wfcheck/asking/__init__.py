@@ -12,9 +12,12 @@ for a map after fewer rounds than ROUNDS or FIRST, in a tenth of the time: `lift
 not have to trust the solver. You trust this script to hand wfcheck the task that you named, and to pass on its answer.
 
 The last line says what is accepted in this run: `never`; `from R`, a map after R rounds and none after R - 1, or R is 0; `none up to R`,
-since a map after fewer rounds would give one after R; `map at R`; or `not decided`.
+since a map after fewer rounds would give one after R; `map at R`; or `not decided`. If a number of rounds is refused after others were asked,
+the last line says so behind the answer, as in `none up to 2; 3 rounds have too many executions`.
 
-    TASK       a task file, or the name of one in gallery/tasks
+The file of a task is read once, and all is about these bytes. If the file has changed at the end, a line before the last says so.
+
+    TASK       a task file, or the name of one in gallery/tasks. If several are named, each has a last line
     ROUNDS     a number, or FIRST..LAST: each in turn, up to the first with a map
     --solver   cadical, kissat, cryptominisat5 or minisat (the last two write no proofs, and so find maps alone); or a command
                with {formula}, with {proof} if it writes clausal proofs as text, or {hints} if these have hints (LRAT), and with
@@ -71,6 +74,6 @@ A note is trusted while the file that it names is there, with the SHA-256 that i
 noted; after --recheck nothing is.
 
 The status is 0 for a map, 1 for none and for never, 2 for words or a question that are refused, 3 for a question that was not decided, 130
-where it was cut off. With --branch or --share it is 0 where these branches are decided, for a map, none or never, and 3 where they are not. It
+where it was cut off. With several tasks it is 0 if each is decided, and else 130, 2 or 3. With --branch or --share it is 0 where these branches are decided, for a map, none or never, and 3 where they are not. It
 needs the program: what the variable WFCHECK names, else bin/wfcheck, as `make build` leaves it, else release/wfcheck, else wfcheck on the
 path. If it is release/wfcheck, a line on standard error says so."""

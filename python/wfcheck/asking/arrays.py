@@ -34,7 +34,7 @@ class Job:
 
     def words_of(self, words: argparse.Namespace, solver: str) -> str:
         """The command, with all that was said or found here: its solver by its path, its limits, and no --jobs, since a job asks one by one."""
-        command = [*words.command, words.task.resolve(), words.rounds[0], "--keep", self.keep]
+        command = [*words.command, words.given.file.resolve(), words.rounds[0], "--keep", self.keep]
         command += [f"--seconds={words.seconds:g}", f"--memory={words.memory:g}", f"--disk={words.disk:g}", f"--clauses={words.clauses}"]
         command += ["--solver", solver, *["--no-obstruction"] * words.no_obstruction]
         return shlex.join(map(str, command))

@@ -12,7 +12,7 @@ import tempfile
 import threading
 from typing import Any, Collection, Dict, List, NamedTuple, Optional, Sequence, Tuple
 
-from . import arrays, pool, table
+from . import arrays, given, pool, table
 from .cases import Cases
 from .notes import Note, Notes, Room, digest, placed
 from .pool import shown
@@ -304,7 +304,10 @@ def write_array(words: argparse.Namespace, solver: str, question: Listed) -> Non
         raise Refused("there is no branch, so no array is needed: ask without --array")
     if question.is_doubtful():
         print(question.doubt(), file=sys.stderr)
-    print(arrays.array(words, solver, question.branches))
+    script = arrays.array(words, solver, question.branches)
+    if given.digest_of(words.given.file) != words.given.digest:
+        raise Undecided(f"{words.given.file} has changed during this run, and the jobs would read it anew")
+    print(script)
 
 
 def main(words: argparse.Namespace, solver: Optional[str], clock: Clock) -> int:
@@ -323,7 +326,7 @@ def main(words: argparse.Namespace, solver: Optional[str], clock: Clock) -> int:
         say(f"{words.task.stem} after {branches.rounds} {rounds}, {question.branches} branches,{some} {noted} of them known:")
         if words.tally:
             tally(branches)
-            return ended(*branches.told(branches.known()))
+            return ended(words, *branches.told(branches.known()))
         if words.recheck:
             branches.recheck_all()
             known = dict(sorted(branches.fresh.items()))
@@ -333,16 +336,18 @@ def main(words: argparse.Namespace, solver: Optional[str], clock: Clock) -> int:
             branches.ask_all()
             if words.branch is not None or words.share:
                 text, status = of_chosen(branches)
+                words.given.close()
                 say(f"    {text}")
                 return status
             answered("wfcheck join", branches.join)
             known = branches.known()
         text, answer = branches.told(known)
         words.table.add(words.task, branches.rounds, branches.in_table(answer, known), branches.certificate(answer), clock.taken())
-        return ended(text, answer)
+        return ended(words, text, answer)
 
 
-def ended(text: str, answer: Optional[str]) -> int:
+def ended(words: argparse.Namespace, text: str, answer: Optional[str]) -> int:
     """Says what all comes to, and returns the status."""
+    words.given.close()
     say(f"    {text}")
     return STATUS[answer]

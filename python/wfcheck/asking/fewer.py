@@ -8,6 +8,7 @@ import json
 import re
 from typing import Dict, Iterable, Iterator, List, NamedTuple, Optional, Sequence, Set, Tuple
 
+from ..running import Error
 from ..tasks import Task, read, restrict, write
 from .questions import SHARE, Answer, Attempt, Question
 from .runs import Clock, Late, say
@@ -34,7 +35,7 @@ def none_of_fewer(attempt: Attempt) -> Optional[Answer]:
         for kept in some_of(json.loads(whole.text)["processes"]):
             if answer := of_some(attempt, whole, kept, clock):
                 return answer
-    except (Late, *NO_TASK):
+    except (Late, Error, *NO_TASK):
         pass
     return None
 

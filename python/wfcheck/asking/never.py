@@ -65,13 +65,15 @@ def is_found(words: argparse.Namespace, file: pathlib.Path, scope: Scope, clock:
 def is_accepted(words: argparse.Namespace, file: pathlib.Path, scope: Scope, clock: Clock) -> bool:
     """Whether `verify` accepts an obstruction of the task; then there is no map, and the last line says so."""
     try:
-        ended = scope.wfcheck(["verify", "--task", words.task], clock, file)
+        ended = scope.wfcheck(["verify", f"--task={words.task}"], clock, file)
     except Late:
         say(f"    wfcheck verify: no end within the {clock.seconds:g} s that the obstruction has")
         raise
     accepted = ended.status == 0 and ended.said.strip() == ACCEPTED
     say(f"    wfcheck verify: {ACCEPTED if accepted else ended.why()} ({ended.taken:.2f} s)")
     if accepted:
+        if words.by_branch:
+            words.given.close()
         say(f"    never: no map after any number of rounds (obstruction {in_words(file)})")
     return accepted
 

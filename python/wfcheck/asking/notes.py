@@ -14,10 +14,12 @@ import os
 import pathlib
 import re
 import shutil
+import stat
 import tempfile
 import time
 from typing import TYPE_CHECKING, Any, Dict, Iterable, Iterator, NamedTuple, Optional, Set, Tuple
 
+from .. import files
 from .runs import not_cut_off, say
 
 if TYPE_CHECKING:
@@ -38,7 +40,7 @@ CODE, ERRORS = "utf-8", "surrogateescape"
 def digest(file: pathlib.Path) -> str:
     """The SHA-256 of a file."""
     found = hashlib.sha256()
-    with open(file, "rb") as text:
+    with files.opened(file) as text:
         while piece := text.read(1 << 20):
             not_cut_off()
             found.update(piece)
@@ -56,7 +58,7 @@ class Room:
         if self.keep:
             for left in self.keep.glob(f"{ROOMS}*"):
                 sweep(left)
-        self.path = pathlib.Path(tempfile.mkdtemp(prefix=ROOMS, dir=self.keep))
+        self.path = pathlib.Path(tempfile.mkdtemp(prefix=ROOMS, dir=self.keep)).absolute()
         self.lock = open(self.path / f"{LOCK}.new", "x")
         with contextlib.suppress(OSError):
             print(os.uname().nodename, file=self.lock, flush=True)
@@ -94,8 +96,9 @@ def clear(folder: pathlib.Path) -> None:
 def sweep(room: pathlib.Path) -> None:
     """Takes away the room of a run that is gone. That of another machine stays, since its lock may not be seen from here."""
     with contextlib.suppress(OSError, ValueError):
-        with open(os.open(room / LOCK, os.O_RDWR | os.O_NOFOLLOW)) as lock:
-            if lock.read(1 << 10).strip() == os.uname().nodename:
+        with open(os.open(room / LOCK, os.O_RDWR | os.O_NOFOLLOW | os.O_NONBLOCK)) as lock:
+            is_file = stat.S_ISREG(os.fstat(lock.fileno()).st_mode)
+            if is_file and lock.read(1 << 10).strip() == os.uname().nodename:
                 fcntl.flock(lock, fcntl.LOCK_EX | fcntl.LOCK_NB)
                 clear(room)
 
@@ -164,8 +167,8 @@ class Notes:
                     os.link(made / "question", file)
         if not file.is_file():
             return "has no notes yet: they come from runs with this folder as --keep"
-        with open(file, encoding=CODE, errors=ERRORS) as lines:
-            found = lines.read(1 << 14)
+        with files.opened(file) as lines:
+            found = lines.read(1 << 14).decode(CODE, ERRORS)
         if found == text:
             return None
         words = dict(line.split(" ", 1) for line in found.split("\n") if " " in line)
@@ -176,8 +179,8 @@ class Notes:
 
     def line_of(self, branch: int) -> Optional[Note]:
         """What is noted of a branch, whether it is to be trusted or not."""
-        with open(self.folder / f"branch-{branch}", encoding=CODE, errors=ERRORS) as file:
-            found = LINE.fullmatch(file.read(1 << 14))
+        with files.opened(self.folder / f"branch-{branch}") as file:
+            found = LINE.fullmatch(file.read(1 << 14).decode(CODE, ERRORS))
         if not found:
             return None
         word, who, taken, size, sha, name = found.groups()

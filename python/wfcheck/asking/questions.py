@@ -11,6 +11,7 @@ import subprocess
 from typing import Any, Callable, Dict, List, NamedTuple, Optional, Sequence, Tuple, TypeVar
 
 from . import runs
+from .given import in_line
 from .notes import VERDICT
 from .runs import Clock, Given, Late, Look, Refused, Scope, say
 
@@ -56,7 +57,7 @@ class Question:
 
     def __init__(self, task: pathlib.Path, rounds: int, branch: Optional[int] = None, count: Optional[int] = None) -> None:
         self.task, self.rounds, self.number, self.count = task, rounds, branch, count
-        self.about = ["--task", task, "--rounds", rounds]
+        self.about = [f"--task={task}", "--rounds", rounds]
         self.branch = [] if branch is None else ["--branch", branch]
         self.name = "-".join(map(str, [task.stem, rounds, *self.branch[1:]]))
         where = f" in branch {branch} of {count}" if self.branch else ""
@@ -276,7 +277,7 @@ class Attempt:
 
 def solver_name(words: str) -> str:
     """What a solver is called whose command these words are."""
-    return pathlib.PurePath(shlex.split(words)[0]).name
+    return in_line(pathlib.PurePath(shlex.split(words)[0]).name)
 
 
 def lemmas(proof: pathlib.Path, clock: Clock) -> int:

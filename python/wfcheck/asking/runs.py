@@ -129,7 +129,7 @@ class Scope:
     def wfcheck(self, words: Sequence[Any], clock: Clock, given: Given, wrote: Optional[pathlib.Path] = None, look: Look = None) -> Ended:
         """Runs wfcheck over a file. What it writes goes to a file that must not be there yet, or is told with what it says."""
         begun = time.monotonic()
-        with open(given, "rb") as read, tempfile.TemporaryFile() as told, open(wrote or os.devnull, "xb" if wrote else "ab") as write:
+        with open(given, "rb", opener=not_waiting) as read, tempfile.TemporaryFile() as told, open(wrote or os.devnull, "xb" if wrote else "ab") as write:
             status = self.run([str(program()), *map(str, words)], clock, look=look, stdin=read, stdout=write if wrote else told, stderr=told)
             told.seek(0)
             return Ended(status, told.read(TOLD).decode(errors="replace"), time.monotonic() - begun)
@@ -165,6 +165,11 @@ class Child:
     def has_ended(self) -> bool:
         """Whether the program has ended; it keeps its number until `wait` asks for its status, so that the group can be named by it."""
         return os.waitid(os.P_PID, self.process.pid, os.WEXITED | os.WNOWAIT | os.WNOHANG) is not None
+
+
+def not_waiting(path: str, flags: int) -> int:
+    """Opens a file, without waiting where it is a pipe."""
+    return os.open(path, flags | os.O_NONBLOCK, 0o666)
 
 
 def limited(limits: Limits) -> Callable[[], None]:

@@ -9,9 +9,10 @@ import sys
 from typing import Collection, List, NamedTuple, Optional, Sequence, Union
 
 from .notes import Note, digest
+from .runs import not_waiting
 
 HEADER = ["task", "rounds", "answer", "certificate", "bytes", "sha256", "seconds"]
-EVERY, NOT_DECIDED, NOTHING = "every", "not decided", "-"
+EVERY, NOT_DECIDED, REFUSED, NOTHING = "every", "not decided", "refused", "-"
 
 
 class Certificate(NamedTuple):
@@ -46,7 +47,7 @@ class Table:
         found = certificate or Certificate()
         values: List[Union[int, str]] = [re.sub(r"[\x00-\x1f]", "?", task.stem), rounds, answer or NOT_DECIDED, *found, f"{seconds:.2f}"]
         try:
-            with open(self.file, "ab") as lines:
+            with open(self.file, "ab", opener=not_waiting) as lines:
                 fcntl.flock(lines, fcntl.LOCK_EX)
                 rows: List[Sequence[Union[int, str]]] = [HEADER, values] if pathlib.Path(self.file).stat().st_size == 0 else [values]
                 lines.write("".join("\t".join(map(str, row)) + "\n" for row in rows).encode(errors="surrogateescape"))

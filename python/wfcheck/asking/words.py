@@ -2,6 +2,7 @@
 from __future__ import annotations
 
 import argparse
+import difflib
 import functools
 import io
 import os
@@ -15,12 +16,16 @@ import sys
 import tempfile
 from typing import Dict, List, Optional, Tuple
 
+from ..gallery import gallery
 from ..running import VARIABLE, NoProgram, linter, program
+from ..running import refusal as refusal_of
 from . import __doc__ as about
 from . import arrays, branches, cases, fewer, never, questions, runs, table
+from .given import Given, in_line
 from .notes import Notes, Room, keep
 from .questions import FEWER_ROUNDS, PLACES, SEARCH, SEARCH_ALONE, Answer, Attempt, Question, first
 from .runs import Clock, Late, Limits, Refused, Scope, Stopped, Undecided, say
+from .summary import refused_in_words, summary
 
 SOLVERS = {
     "cadical": "cadical -q --no-binary {formula} {proof}",
@@ -42,9 +47,8 @@ GB = 1 << 30
 def parsed(listed: List[str], name: str) -> Tuple[argparse.ArgumentParser, argparse.Namespace]:
     """The words as they stand."""
     words = argparse.ArgumentParser(
-        description=about, formatter_class=argparse.RawDescriptionHelpFormatter, usage=f"{name} TASK ROUNDS [options]", prog=name)
-    words.add_argument("task")
-    words.add_argument("rounds")
+        description=about, formatter_class=argparse.RawDescriptionHelpFormatter, usage=f"{name} TASK .. ROUNDS [options]", prog=name)
+    words.add_argument("given", nargs="*", metavar="TASK .. ROUNDS", help=argparse.SUPPRESS)
     words.add_argument("--solver")
     words.add_argument("--seconds", type=float, default=60)
     words.add_argument("--clauses", type=int, default=20_000_000)
@@ -62,11 +66,16 @@ def parsed(listed: List[str], name: str) -> Tuple[argparse.ArgumentParser, argpa
     chosen.add_argument("--array", choices=list(arrays.SYSTEMS))
     chosen.add_argument("--tally", type=pathlib.Path)
     chosen.add_argument("--recheck", type=pathlib.Path)
-    return words, words.parse_args(listed)
+    # options may stand between tasks and rounds
+    found = words.parse_intermixed_args(listed)
+    if len(found.given) < 2:
+        words.error(f"the following arguments are required: {', '.join(['task', 'rounds'][len(found.given):])}")
+    *found.tasks, found.rounds = found.given
+    return words, found
 
 
 def asked(listed: List[str], command: List[str], name: str) -> argparse.Namespace:
-    """The words, the task's file, and the rounds in turn. The command is that by which a job asks again."""
+    """The words, the files of the tasks, and the rounds in turn. The command is that by which a job asks again."""
     words, found = parsed(listed, name)
     try:
         found.command = [*named_program(), *command]
@@ -74,24 +83,46 @@ def asked(listed: List[str], command: List[str], name: str) -> argparse.Namespac
     except NoProgram as why:
         words.error(str(why))
     judge_numbers(words, found)
-    path = pathlib.Path(found.task)
-    found.task = path if path.is_file() else runs.TASKS / f"{found.task.removesuffix('.json')}.json"
-    if not found.task.is_file():
-        make = f"`wfcheck-task {path.name}` writes the file of a task of the gallery"
-        words.error(f"{path} is no file, and no task of gallery/tasks" if runs.TASKS.is_dir() else f"{path} is no file; {make}")
-    rounds = re.fullmatch(r"(\d+)(?:\.\.(\d+))?", found.rounds, re.A)
-    first_rounds, last = (int(rounds[1]), int(rounds[2] or rounds[1])) if rounds else (1, 0)
-    if first_rounds > last:
-        words.error(f"{found.rounds} is no number of rounds, and not FIRST..LAST")
-    found.rounds = range(first_rounds, last + 1)
-    if (found.by_branch or found.split) and first_rounds < last:
+    found.rounds = rounds_of(words, found.rounds)
+    found.files = [file_of(words, name) for name in found.tasks]
+    if (found.by_branch or found.split) and len(found.rounds) > 1:
         words.error(f"{'cases' if found.split else 'branches'} are those of one number of rounds, and not of FIRST..LAST")
+    if (found.by_branch or found.split) and len(found.files) > 1:
+        words.error(f"{'cases' if found.split else 'branches'} are those of one task: ask about one after another")
     if found.solver not in (None, SEARCH_ALONE):
         wrong = wrong_command(words_of(found.solver))
         if wrong:
             words.error(f"--solver: {wrong}")
     judge_folder(words, found)
     return found
+
+
+def rounds_of(words: argparse.ArgumentParser, text: str) -> range:
+    """The numbers of rounds that a word names."""
+    found = re.fullmatch(r"(\d{1,9})(?:\.\.(\d{1,9}))?", text, re.A)
+    first_rounds, last = (int(found[1]), int(found[2] or found[1])) if found else (1, 0)
+    if first_rounds > last:
+        meant = re.fullmatch(r"(\d{1,9})(?:-|\.|\.\.\.|:|,)(\d{1,9})", text, re.A)
+        is_meant = meant is not None and int(meant[1]) <= int(meant[2])
+        words.error(f"{text} is no number of rounds, and not FIRST..LAST" + (f": {meant[1]}..{meant[2]}?" if meant and is_meant else ""))
+    return range(first_rounds, last + 1)
+
+
+def file_of(words: argparse.ArgumentParser, name: str) -> pathlib.Path:
+    """The file of a task, by its path or by its name in the gallery."""
+    path, known = pathlib.Path(name), runs.TASKS / f"{name.removesuffix('.json')}.json"
+    if path.is_file() or known.is_file():
+        return path if path.is_file() else known
+    near = difflib.get_close_matches(path.name.removesuffix(".json"), gallery_names())
+    asked_for = f": {' or '.join(near)}?" if near else ""
+    if runs.TASKS.is_dir():
+        words.error(f"{path} is no file, and no task of gallery/tasks{asked_for}")
+    words.error(f"{path} is no file; `wfcheck-task NAME` writes the file of a task of the gallery{asked_for}")
+
+
+def gallery_names() -> List[str]:
+    """The names of the gallery's tasks. Where its files are not there, the tasks are made."""
+    return [it.stem for it in runs.TASKS.glob("*.json")] if runs.TASKS.is_dir() else [it.name for it in gallery()]
 
 
 def named_program() -> List[str]:
@@ -210,7 +241,8 @@ def refusal(said: str, task: pathlib.Path) -> str:
     if not said.startswith("wfcheck: "):
         return said.rstrip("\n")
     about_task = re.match(r"wfcheck: (?:[1-9]|1[0-4]|18) ", said)
-    return said + (f"{linter()} {task} says where, in words" if about_task else 'docs/FORMAT.md, "Refusals", says what that means')
+    named = f"./{task}" if str(task).startswith("-") else task
+    return said + (f"{linter()} {named} says where, in words" if about_task else 'docs/FORMAT.md, "Refusals", says what that means')
 
 
 def main(listed: List[str], command: List[str], name: str = "ask") -> int:
@@ -222,18 +254,42 @@ def main(listed: List[str], command: List[str], name: str = "ask") -> int:
         # what is ignored, as after `nohup`, stays so
         if signal.getsignal(end) != signal.SIG_IGN:
             signal.signal(end, lambda *_: runs.CUT_OFF.set())
+    if len(words.files) == 1:
+        return of_task(words, words.files[0])
+    found = []
+    for file in words.files:
+        found.append(of_task(words, file))
+        if found[-1] == CUT_OFF:
+            break
+    # that of the whole is 0 if each task is decided
+    return next((it for it in (CUT_OFF, REFUSED, branches.STATUS[None]) if it in found), 0)
+
+
+def of_task(words: argparse.Namespace, file: pathlib.Path) -> int:
+    """Asks about the task of a file, and returns the status."""
+    one = argparse.Namespace(**vars(words))
     try:
-        return answered(words)
+        with tempfile.TemporaryDirectory() as made:
+            one.given = Given(file, pathlib.Path(made))
+            one.task = one.given.copy
+            return answered(one)
     except Stopped:
         goes_on = ": begun again by the same words it goes on where it was" if words.by_branch or words.split else ""
         print(f"cut off{goes_on}", file=sys.stderr)
         return CUT_OFF
     except Refused as refused:
-        print(refusal(str(refused), words.task), file=sys.stderr)
-        return REFUSED
-    except Undecided as why:
+        print(refusal(str(refused), file), file=sys.stderr)
+        return no_answer(words, file, "refused", REFUSED)
+    except (Undecided, OSError) as why:
         print(f"ask: {why}", file=sys.stderr)
-        return branches.STATUS[None]
+        return no_answer(words, file, "not decided", branches.STATUS[None])
+
+
+def no_answer(words: argparse.Namespace, file: pathlib.Path, said: str, status: int) -> int:
+    """Says a last line of a task that has no answer, where several are asked about, and returns the status."""
+    if len(words.files) > 1:
+        say(f"{in_line(file.stem)}: {said}")
+    return status
 
 
 def answered(words: argparse.Namespace) -> int:
@@ -252,18 +308,35 @@ def answered(words: argparse.Namespace) -> int:
         return branches.main(words, solver, Clock(words.seconds))
     if words.split:
         return in_cases(words, solver)
-    answers = {}
     with Room(words.keep) as room:
-        for rounds in words.rounds:
-            say(f"{words.task.stem} after {rounds} {'round' if rounds == 1 else 'rounds'}:")
-            clock = Clock(words.seconds)
+        return in_rounds(words, solver, room)
+
+
+def in_rounds(words: argparse.Namespace, solver: Optional[str], room: Room) -> int:
+    """Asks about one number of rounds behind another, up to the first with a map, and returns the status of the last that has an answer. A
+    number that is refused ends the run, as each larger one would be; what was accepted before is told."""
+    answers: Dict[int, Optional[str]] = {}
+    answer, refused = None, None
+    for rounds in words.rounds:
+        say(f"{words.task.stem} after {rounds} {'round' if rounds == 1 else 'rounds'}:")
+        clock = Clock(words.seconds)
+        try:
             answers[rounds], certificate = decided(words, rounds, solver, room, clock)
-            answer = answers[rounds]
-            words.table.add(words.task, rounds, answer, certificate, clock.taken())
-            say(f"    {answer or 'not decided' + (f' within {words.seconds:g} s' if clock.taken() >= words.seconds else '')}")
-            if answer == "map":
-                break
-    say(f"{words.task.stem}: {summary(answers)}")
+        except Refused as why:
+            found = refusal_of(str(why))
+            if not answers or not found:
+                raise
+            say(f"    refused: {found}")
+            words.table.add(words.task, rounds, table.REFUSED, None, clock.taken())
+            refused = refused_in_words(rounds, found.number, found.words)
+            break
+        answer = answers[rounds]
+        words.table.add(words.task, rounds, answer, certificate, clock.taken())
+        say(f"    {answer or 'not decided' + (f' within {words.seconds:g} s' if clock.taken() >= words.seconds else '')}")
+        if answer == "map":
+            break
+    words.given.close()
+    say(f"{words.task.stem}: {summary(answers, refused)}")
     return branches.STATUS[answer]
 
 
@@ -284,6 +357,7 @@ def in_cases(words: argparse.Namespace, solver: str) -> int:
                 by_cases.clear()
             words.table.add(words.task, rounds, answer and answer.word, answer and words.table.of_file(answer.files[0]), clock.taken())
     word = answer and answer.word
+    words.given.close()
     say(f"{words.task.stem}: {summary({rounds: word})}")
     return branches.STATUS[word]
 
@@ -298,18 +372,9 @@ def has_obstruction(words: argparse.Namespace) -> bool:
 def of_never(words: argparse.Namespace) -> int:
     """The status of a task that has no map after any number of rounds. All its branches are decided then."""
     if not words.by_branch:
+        words.given.close()
         say(f"{words.task.stem}: never")
     return 0 if words.branch is not None or words.share else branches.STATUS["none"]
-
-
-def summary(answers: Dict[int, Optional[str]]) -> str:
-    """What the answers by rounds come to. A map after some rounds gives one after more, so none there is none after fewer, too."""
-    most = max((rounds for rounds, answer in answers.items() if answer == "none"), default=None)
-    least = next((rounds for rounds, answer in answers.items() if answer == "map"), None)
-    if least == 0 or most is not None and least == most + 1:
-        return f"from {least}"
-    told = [f"none up to {most}"] * (most is not None) + [f"map at {least}"] * (least is not None)
-    return ", ".join(told) or "not decided"
 
 
 def decided(words: argparse.Namespace, rounds: int, solver: Optional[str], room: Room, clock: Clock) -> Tuple[Optional[str],

@@ -1,0 +1,185 @@
+#!/usr/bin/env python3
+"""ask.py TASK ROUNDS [--solver WORDS] [--seconds N] [--keep FOLDER]: a question decided without the program, by the scripts beside this
+one and a SAT solver.
+
+First finding.py looks for an obstruction, which second_opinion.py judges. Then each number of rounds is asked about in turn, up to the
+first with a map: formula.py writes the question for the solver, model.py and second_opinion.py judge a model, and rup.py judges a proof.
+Nothing that the solver says counts unless it is accepted so. ROUNDS is a number, or FIRST..LAST.
+
+--solver is cadical, kissat, cryptominisat5 or minisat (the last two write no proofs), or a command with {formula}, and with {proof} or
+{output} if it writes a proof as text, or its model to a file. Without it the first of these four is taken that is on the path; if there
+is none, an obstruction alone is looked for. Each step has --seconds, 60 if it isn't given. --keep names a folder for what was accepted.
+
+The last line is that of tools/ask: `never`, `from R`, `none up to R`, `map at R` or `not decided`. The status is 0 for a map, 1 for none
+and never, 2 if the words or the task are refused, and 3 if the question was not decided."""
+import argparse
+import contextlib
+import os
+import pathlib
+import re
+import shlex
+import shutil
+import signal
+import subprocess
+import sys
+import tempfile
+import time
+
+sys.dont_write_bytecode = True
+import task_file  # noqa: E402
+
+HERE = pathlib.Path(__file__).resolve().parent
+SOLVERS = {"cadical": "cadical -q --no-binary {formula} {proof}", "kissat": "kissat -q --no-binary {formula} {proof}",
+           "cryptominisat5": "cryptominisat5 --verb 0 {formula}", "minisat": "minisat -verb=0 {formula} {output}"}
+SAYS = re.compile(rb"^(?:s )?(UN)?SAT(?:ISFIABLE)?\s*$", re.M)
+STATUS = {"map": 0, "none": 1, None: 3}
+
+
+def run(words, seconds, wrote, given=None):
+    """Whether a program ends with status 0 within some seconds, with what it writes in a file, and the last line that it says there or on
+    standard error."""
+    begun, errors = time.monotonic(), wrote.with_suffix(".errors")
+    with open(given or os.devnull, "rb") as read, open(wrote, "wb") as write, open(errors, "wb") as complain:
+        child = subprocess.Popen([str(it) for it in words], stdin=read, stdout=write, stderr=complain, start_new_session=True)
+        try:
+            status = child.wait(seconds)
+        except subprocess.TimeoutExpired:
+            return False, f"no end within {seconds:g} s"
+        finally:
+            # with all that it has started
+            with contextlib.suppress(ProcessLookupError):
+                os.killpg(child.pid, signal.SIGKILL)
+            child.wait()
+    last = (errors.read_bytes() or wrote.read_bytes())[-200:].decode(errors="replace").strip().rpartition("\n")[2]
+    return status == 0, f"{'done' if last == 'end' else last} ({time.monotonic() - begun:.2f} s)"
+
+
+class Run:
+    """A run about one copy of a task's text, in a folder of its own."""
+
+    def __init__(self, asked, solver, folder):
+        self.seconds, self.keep, self.solver, self.folder = asked.seconds, asked.keep, solver, folder
+        self.name = asked.task.stem
+        self.task = folder / "task.json"
+
+    def script(self, name, *words, wrote, given=None):
+        """Has a script beside this one run, and says what it said."""
+        is_well, said = run([sys.executable, HERE / name, *words], self.seconds, self.folder / wrote, given)
+        if name != "formula.py" or not is_well:
+            print(f"    {name}: {said}", flush=True)
+        return is_well
+
+    def kept(self, file, name):
+        """Keeps what was accepted under a name that is free."""
+        if self.keep:
+            self.keep.mkdir(parents=True, exist_ok=True)
+            place = self.keep / name
+            for number in range(2, 1000):
+                if not place.exists():
+                    break
+                place = self.keep / f"{pathlib.Path(name).stem}.{number}{pathlib.Path(name).suffix}"
+            shutil.copyfile(self.folder / file, place)
+
+    def is_never(self):
+        """Whether an obstruction is found, and holds."""
+        found = self.script("finding.py", self.task, wrote="found")
+        if found and self.script("second_opinion.py", self.task, self.folder / "found", wrote="said"):
+            self.kept("found", f"{self.name}.obstruction")
+            return True
+        return False
+
+    def answer(self, rounds):
+        """What the solver says of a number of rounds, if it is accepted: map, none or nothing."""
+        if not self.solver or not self.script("formula.py", self.task, rounds, wrote="formula"):
+            return None
+        places = {name: self.folder / name for name in ("formula", "proof", "output")}
+        for name in ("proof", "output"):
+            places[name].unlink(missing_ok=True)
+        words = [word.format(**places) for word in shlex.split(self.solver)]
+        _, said = run(words, self.seconds, self.folder / "solver")
+        model = places["output"] if places["output"].is_file() else self.folder / "solver"
+        found = SAYS.search(model.read_bytes()) or SAYS.search((self.folder / "solver").read_bytes())
+        print(f"    {pathlib.Path(words[0]).name}: {found[0].decode().strip() if found else said}", flush=True)
+        if found and not found[1]:
+            return self.of_model(rounds, model)
+        return self.of_proof(rounds, places["proof"]) if found and places["proof"].is_file() else None
+
+    def of_model(self, rounds, model):
+        """A map, if the solver's model is one."""
+        is_well = self.script("model.py", self.task, rounds, wrote="map", given=model)
+        if is_well and self.script("second_opinion.py", self.task, self.folder / "map", wrote="said"):
+            self.kept("map", f"{self.name}-{rounds}.map")
+            return "map"
+        return None
+
+    def of_proof(self, rounds, proof):
+        """None, if the solver's proof shows it."""
+        if self.script("rup.py", self.task, rounds, wrote="said", given=proof):
+            self.kept("proof", f"{self.name}-{rounds}.drat")
+            return "none"
+        return None
+
+    def last(self, rounds):
+        """The last line about some numbers of rounds, and the status."""
+        answers = {}
+        for each in rounds:
+            print(f"{self.name} after {each} {'round' if each == 1 else 'rounds'}:", flush=True)
+            answers[each] = self.answer(each)
+            print(f"    {answers[each] or 'not decided'}", flush=True)
+            if answers[each] == "map":
+                break
+        none = max((it for it in answers if answers[it] == "none"), default=None)
+        there = next((it for it in answers if answers[it] == "map"), None)
+        told = [f"none up to {none}"] * (none is not None) + [f"map at {there}"] * (there is not None)
+        is_from = there is not None and (there == 0 or none == there - 1)
+        return f"from {there}" if is_from else ", ".join(told) or "not decided", STATUS[answers[each]]
+
+
+def asked_for():
+    """The words, and the numbers of rounds."""
+    words = argparse.ArgumentParser(prog="ask.py", description=__doc__, formatter_class=argparse.RawDescriptionHelpFormatter)
+    words.add_argument("task", type=pathlib.Path, metavar="TASK")
+    words.add_argument("rounds", metavar="ROUNDS")
+    words.add_argument("--solver")
+    words.add_argument("--seconds", type=float, default=60)
+    words.add_argument("--keep", type=pathlib.Path)
+    asked = words.parse_args()
+    found = re.fullmatch(r"([0-8])(?:\.\.([0-8]))?", asked.rounds, re.A)
+    if not found or int(found[1]) > int(found[2] or found[1]):
+        words.error(f"{asked.rounds} is no number of rounds from 0 to 8, and not FIRST..LAST")
+    if not 0 < asked.seconds < 1e9:
+        words.error("--seconds is to be above 0")
+    return words, asked, range(int(found[1]), int(found[2] or found[1]) + 1)
+
+
+def main():
+    words, asked, rounds = asked_for()
+    solver = SOLVERS.get(asked.solver, asked.solver) or next((SOLVERS[it] for it in SOLVERS if shutil.which(it)), None)
+    try:
+        with open(asked.task, "rb") as file:
+            text = file.read(task_file.LONGEST + 1)
+        task_file.read(text)
+        if solver and not shutil.which(shlex.split(solver)[0]):
+            words.error(f"--solver: {solver} is not on the path")
+    except (OSError, ValueError, IndexError) as error:
+        words.error(str(error))
+    except task_file.Refused as refused:
+        words.error(f"the task is refused, {refused.line}: {refused.words}")
+    if not solver:
+        print("no SAT solver is on the path: an obstruction alone is looked for", file=sys.stderr)
+    with tempfile.TemporaryDirectory() as folder:
+        run_of = Run(asked, solver, pathlib.Path(folder))
+        run_of.task.write_bytes(text)
+        print(f"{run_of.name} after every number of rounds:", flush=True)
+        last, status = ("never", STATUS["none"]) if run_of.is_never() else run_of.last(rounds)
+    print(f"{run_of.name}: {last}")
+    return status
+
+
+if __name__ == "__main__":
+    try:
+        sys.exit(main())
+    except Exception as error:
+        # a status of Python's own would mean an answer
+        print(f"ask.py: {type(error).__name__}: {error}", file=sys.stderr)
+        sys.exit(STATUS[None])

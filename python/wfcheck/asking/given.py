@@ -1,0 +1,54 @@
+"""The bytes of the task that a run of `ask` is about. The task's file is read once. All that is asked and checked is about a copy in a folder
+of this run, so that a file that changes meanwhile can't mix the answers of two tasks. Before the last line the file is compared."""
+from __future__ import annotations
+
+import hashlib
+import pathlib
+import re
+from typing import Optional
+
+from .. import files
+from ..tasks import LONGEST
+from .runs import Undecided, say
+
+# what would break the lines of notes and of the answer
+BREAKS = re.compile(r"[\x00-\x1f\x7f\x85\u2028\u2029]")
+
+
+class Given:
+    """The file that was named, and the copy of its first bytes that were read."""
+
+    def __init__(self, file: pathlib.Path, folder: pathlib.Path) -> None:
+        self.file, self.copy = file, folder / in_line(file.name)
+        text = read(file)
+        self.digest = hashlib.sha256(text).hexdigest()
+        self.copy.write_bytes(text)
+        self.is_told = False
+
+    def close(self) -> None:
+        """Says before the last line whether the file has changed. Raises Undecided if the copy has: then nothing that was said counts."""
+        if digest_of(self.copy) != self.digest:
+            raise Undecided("the copy of the task that this run worked on was changed: nothing that was said of the task counts")
+        if digest_of(self.file) != self.digest and not self.is_told:
+            self.is_told = True
+            say(f"    {in_line(str(self.file))} has changed during this run: the answer is about the bytes that were read first, with SHA-256 "
+                f"{self.digest}")
+
+
+def in_line(text: str) -> str:
+    """A name without what would break a line."""
+    return BREAKS.sub("_", text)
+
+
+def read(file: pathlib.Path) -> bytes:
+    """The bytes of a task's file, and of one that is too long a byte more than is allowed: the program refuses it by that."""
+    with files.opened(file) as text:
+        return text.read(LONGEST + 1)
+
+
+def digest_of(file: pathlib.Path) -> Optional[str]:
+    """The SHA-256 of a task's file; None if it can't be read."""
+    try:
+        return hashlib.sha256(read(file)).hexdigest()
+    except OSError:
+        return None
