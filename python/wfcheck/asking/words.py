@@ -113,7 +113,10 @@ def file_of(words: argparse.ArgumentParser, name: str) -> pathlib.Path:
     path, known = pathlib.Path(name), runs.TASKS / f"{name.removesuffix('.json')}.json"
     if path.is_file() or known.is_file():
         return path if path.is_file() else known
-    near = difflib.get_close_matches(path.name.removesuffix(".json"), gallery_names())
+    meant, names = path.name.removesuffix(".json"), gallery_names()
+    if meant in names and not runs.TASKS.is_dir():
+        words.error(f"{path} is no file; `wfcheck-task {meant}` writes the file")
+    near = difflib.get_close_matches(meant, names)
     asked_for = f": {' or '.join(near)}?" if near else ""
     if runs.TASKS.is_dir():
         words.error(f"{path} is no file, and no task of gallery/tasks{asked_for}")
