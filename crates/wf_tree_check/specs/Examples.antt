@@ -1,0 +1,47 @@
+-- Worked examples, by computation: what the checker answers of the hourglass.
+use Rattle.std.specs.Prelude.{◌≡◌, List, [], ◌∷◌, ◌++◌, drop, take, None, Some, refl}
+use Rattle.wf_model.specs.ExampleTasks.{renaming_2_2}
+use Rattle.wf_trees.specs.KnownResults.{hourglass, hourglass_by_cases, hourglass_tree}
+use Rattle.wf_trees.specs.Trees.{Node, case_node, cover_node, nodes_of, split_node}
+use Rattle.wf_balance.specs.declared.fault.BalanceFault.TheVariants.{NotBalanced}
+use Rattle.wf_tree_check.specs.Judge.{fault_of}
+use Rattle.wf_tree_check.specs.declared.fault.CoverFault.TheVariants.{NoCorner, NoSheet, OneParticipant}
+use Rattle.wf_tree_check.specs.declared.fault.TreeFault.TheVariants.{Behind, NoBalance, NoCover, NoNode, NoSimplex, Symmetric}
+
+abbrev nodes : List Node
+nodes = nodes_of hourglass_tree
+
+pub a_split_is_accepted : fault_of (hourglass 1) nodes ≡ None
+a_split_is_accepted = refl
+
+pub cases_are_accepted : fault_of (hourglass 1) (nodes_of hourglass_by_cases) ≡ None
+cases_are_accepted = refl
+
+-- the tree ends after its first node, or goes on behind its last
+pub a_node_is_missing : fault_of (hourglass 1) (take 1 nodes) ≡ Some (NoNode 1)
+a_node_is_missing = refl
+
+pub the_second_case_is_missing : fault_of (hourglass 1) (take 2 (nodes_of hourglass_by_cases)) ≡ Some (NoNode 2)
+the_second_case_is_missing = refl
+
+pub a_node_too_many : fault_of (hourglass 1) (nodes ++ split_node 6 ∷ []) ≡ Some (Behind 2)
+a_node_too_many = refl
+
+pub no_such_simplex : fault_of (hourglass 1) (case_node 7 ∷ []) ≡ Some (NoSimplex 0)
+no_such_simplex = refl
+
+-- without the split, process 0 decides 1 with a process that decides 2
+pub a_balance_of_another_task : fault_of (hourglass 1) (drop 1 nodes) ≡ Some (NoBalance 0 (NotBalanced 3 2))
+a_balance_of_another_task = refl
+
+pub a_symmetric_task_is_not_split : fault_of renaming_2_2 (split_node 2 ∷ []) ≡ Some (Symmetric 0)
+a_symmetric_task_is_not_split = refl
+
+pub a_cover_of_one : fault_of (hourglass 1) (cover_node 0 2 0 [] ∷ []) ≡ Some (NoCover 0 OneParticipant)
+a_cover_of_one = refl
+
+pub a_cover_without_a_corner : fault_of (hourglass 1) (cover_node 6 2 3 [] ∷ []) ≡ Some (NoCover 0 NoCorner)
+a_cover_without_a_corner = refl
+
+pub a_cover_without_a_sheet : fault_of (hourglass 1) (cover_node 6 0 0 [] ∷ []) ≡ Some (NoCover 0 NoSheet)
+a_cover_without_a_sheet = refl

@@ -1,0 +1,78 @@
+-- What the checker answers: the first reason why nodes are no obstruction.
+use Rattle.std.specs.Prelude.{ℕ, zero, suc, ◌==◌, nat_le, nat_lt, not, List, [], ◌∷◌, length, Option, None, Some, Result, Ok, Err, if◌then◌else◌}
+use Rattle.wf_model.specs.Task.{Task, Tuple, first_block}
+use Rattle.wf_counting.specs.Obstruction.{rule_at}
+use Rattle.wf_trees.specs.Cases.{components, in_case}
+use Rattle.wf_trees.specs.Covers.{Covering, covered, is_flat_on}
+use Rattle.wf_trees.specs.Splits.{by_stars, split}
+use Rattle.wf_trees.specs.Trees.{Node, balance_node, by_sheets, case_node, cover_node, new_name, split_node}
+use Rattle.wf_balance.specs.Judge.{balance_fault}
+use Rattle.wf_tree_check.specs.Limits.{limit_of, most_levels}
+use Rattle.wf_tree_check.specs.declared.fault.Limit.TheVariants.{Depth}
+use Rattle.wf_tree_check.specs.declared.fault.CoverFault.{CoverFault}
+use Rattle.wf_tree_check.specs.declared.fault.CoverFault.TheVariants.{OneParticipant, NoCorner, NoSheet, NotFlat}
+use Rattle.wf_tree_check.specs.declared.fault.TreeFault.{TreeFault}
+use Rattle.wf_tree_check.specs.declared.fault.TreeFault.TheVariants.{FirstBlock, NoNode, Behind, NoSimplex, Symmetric, NoCover, NoBalance, TooLarge}
+
+-- what stands behind a tree, with the place of its first node; or why there is no tree
+abbrev pub Judged : Type 0
+Judged = Result (ℕ × List Node) TreeFault
+
+-- the same of each of these in turn
+abbrev pub each_judged : (List Tuple → ℕ → List Node → Judged) → List (List Tuple) → ℕ → List Node → Judged
+each_judged one [] k nodes = Ok (k, nodes)
+each_judged one (part ∷ parts) k nodes = elim (one part k nodes) [
+  | Ok behind ↦ each_judged one parts behind.0 behind.1
+  | Err fault ↦ Err fault
+]
+
+-- the first tuple, from this place on, round which a sheet does not come to itself
+abbrev pub flat_fault : Covering → ℕ → List Tuple → Option CoverFault
+flat_fault c place [] = None
+flat_fault c place (tuple ∷ tuples) = if is_flat_on c tuple then flat_fault c (suc place) tuples else Some (NotFlat place)
+
+abbrev pub cover_fault : Covering → Option CoverFault
+cover_fault c =
+    if not (nat_le 2 (length c.rule.input)) then Some OneParticipant
+    else if not (nat_lt c.corner (length c.rule.input)) then Some NoCorner
+    else if c.sheets == 0 then Some NoSheet
+    else flat_fault c 0 c.rule.tuples
+
+-- what comes of a refined task, unless it is above a limit
+abbrev pub within : Task → ℕ → (Task → Judged) → Judged
+within t k more = elim (limit_of t) [ None ↦ more t | Some limit ↦ Err (TooLarge k limit) ]
+
+-- A tree of the task at hand that begins with the first of these nodes, which has this place. So
+-- many nodes with others below them may stand above one another from there on.
+abbrev pub judged : ℕ → Task → ℕ → List Node → Judged
+judged levels t k [] = Err (NoNode k)
+judged levels t k (balance_node modulus sum xs ∷ nodes) = elim (balance_fault t modulus sum xs) [ None ↦ Ok (suc k, nodes) | Some fault ↦ Err (NoBalance k fault) ]
+judged zero t k (case_node simplex ∷ nodes) = Err (TooLarge k Depth)
+judged zero t k (split_node simplex ∷ nodes) = Err (TooLarge k Depth)
+judged zero t k (cover_node simplex sheets corner moves ∷ nodes) = Err (TooLarge k Depth)
+judged (suc levels) t k (case_node simplex ∷ nodes) =
+    if nat_lt simplex (length t.delta)
+    then each_judged (λ part. judged levels (in_case (rule_at t simplex) part t)) (components (rule_at t simplex)) (suc k) nodes
+    else Err (NoSimplex k)
+judged (suc levels) t k (split_node simplex ∷ nodes) =
+    if t.symmetric then Err (Symmetric k)
+    else if nat_lt simplex (length t.delta)
+    then within (split (by_stars (rule_at t simplex) (new_name t)) t) k (λ u. judged levels u (suc k) nodes)
+    else Err (NoSimplex k)
+judged (suc levels) t k (cover_node simplex sheets corner moves ∷ nodes) =
+    if t.symmetric then Err (Symmetric k)
+    else if not (nat_lt simplex (length t.delta)) then Err (NoSimplex k)
+    else elim (cover_fault (by_sheets t (rule_at t simplex) sheets corner moves)) [
+      | Some fault ↦ Err (NoCover k fault)
+      | None ↦ within (covered (by_sheets t (rule_at t simplex) sheets corner moves) t) k (λ u. judged levels u (suc k) nodes)
+    ]
+
+-- nothing stands behind the tree
+abbrev pub ended : Judged → Option TreeFault
+ended (Ok (k, [])) = None
+ended (Ok (k, node ∷ nodes)) = Some (Behind k)
+ended (Err fault) = Some fault
+
+-- the first reason why the nodes are no obstruction of the task
+abbrev pub fault_of : Task → List Node → Option TreeFault
+fault_of t nodes = if not (first_block t == 1) then Some FirstBlock else ended (judged most_levels t 0 nodes)
