@@ -62,4 +62,4 @@ bench:
 
 # Makes the pictures of docs/pictures anew, by the commands of its page. It needs bin/wfcheck.
 pictures:
-	docs/make-pictures
+	docs/make_pictures.py

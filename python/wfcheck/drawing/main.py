@@ -8,8 +8,8 @@ from typing import Callable, List, NamedTuple, Optional
 
 from ..answers import FIRST, OBSTRUCTION, body, report_of
 from ..questions import explain, verify
-from ..running import Error, Refused, run
-from ..tasks import Simplex, Task, read
+from ..running import Error, NoFile, Refused, run
+from ..tasks import Simplex, Task, read, told
 from ..views import Unreadable
 from . import page, pictures
 from .argument import argument_of
@@ -127,6 +127,14 @@ def of_obstruction(task: Task, text: str, asked: argparse.Namespace, choice: Cho
     return Picture(scene, lambda: page.of_weights(made, weights, scene.count))
 
 
+def text_of(path: str) -> str:
+    """The text of a report, from a file or a pipe. Raises NoFile if it can't be read."""
+    try:
+        return pathlib.Path(path).read_text(encoding="ascii", errors="replace")
+    except OSError as error:
+        raise NoFile(f"{path} can't be read: {told(error)}") from error
+
+
 def keep(text: str, path: Optional[str]) -> None:
     """Writes a text to standard output, or to a file that has it whole or is as it was."""
     if path is None:
@@ -152,7 +160,7 @@ def main(listed: Optional[List[str]] = None) -> int:
     asked = words().parse_args(sys.argv[1:] if listed is None else listed)
     try:
         task = read(asked.task)
-        text = None if asked.report is None else pathlib.Path(asked.report).read_text(encoding="ascii", errors="replace")
+        text = None if asked.report is None else text_of(asked.report)
         found = picture(task, text, asked)
         keep(page.page(found.scene, found.side()) if asked.html else svg(found.scene), asked.output)
     except (Error, Stopped, TooLarge, Unreadable) as why:
@@ -160,9 +168,6 @@ def main(listed: Optional[List[str]] = None) -> int:
         return REFUSED
     except OSError as why:
         print(f"draw: {why.filename if why.filename else 'writing'}: {why.strerror}", file=sys.stderr)
-        return REFUSED
-    except UnicodeDecodeError:
-        print(f"draw: {asked.task}: this is no text of UTF-8", file=sys.stderr)
         return REFUSED
     return 0
 

@@ -1,7 +1,7 @@
 #!/usr/bin/env python3
 """Makes the pictures of docs/pictures by the commands that its page shows.
 
-    docs/make-pictures [--program FILE]
+    docs/make_pictures.py [--program FILE]
 
 The commands run one after another in one shell. `checks/pictures` compares the files with what is made today."""
 import os
