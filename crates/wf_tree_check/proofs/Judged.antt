@@ -1,79 +1,25 @@
 -- What is accepted is a tree, and trees are accepted but for limits.
-use Rattle.std.proofs.Common.{◌≡◌, ℕ, zero, suc, ◌==◌, ◌<◌, nat_le, nat_lt, not, Bool, true, false, cond, List, [], ◌∷◌, ◌++◌, length, Option, None, Some, Ok, Err, ◌⊎◌, inl, inr, refl, sym, ap, ◌∙◌, subst, arith, append_assoc, append-nil}
-use Rattle.std.specs.List.{list_all}
-use Rattle.std.proofs.lemmas.Bool.{and_from, and_parts, eq-eqb, eqb-true, false≢true, le-leb, leb-true, lt-ltb, ltb-true, ne_eqb}
+use Rattle.std.proofs.Common.{◌≡◌, ℕ, zero, suc, ◌==◌, nat_lt, not, Bool, true, false, cond, List, [], ◌∷◌, ◌++◌, length, Option, None, Some, Ok, Err, ◌⊎◌, inl, inr, refl, sym, ap, ◌∙◌, subst, append_assoc, append-nil}
+use Rattle.std.proofs.lemmas.Bool.{eq-eqb, eqb-true, lt-ltb, ltb-true}
 use Rattle.wf_model.specs.Task.{Rule, Task, Tuple, first_block}
 use Rattle.wf_counting.specs.Obstruction.{rule_at}
 use Rattle.wf_counting.proofs.CancelledFaces.{listed_rule}
 use Rattle.wf_trees.specs.Cases.{components, in_case}
-use Rattle.wf_trees.specs.Covers.{Covering, IsCovering, covered, is_flat_on}
+use Rattle.wf_trees.specs.Covers.{covered}
 use Rattle.wf_trees.specs.Splits.{by_stars, split}
-use Rattle.wf_trees.specs.Trees.{AreTrees, IsObstruction, IsTree, Move, Node, Tree, Trees, balance, balance_node, by_cases, by_cover, by_sheets, by_split, case_node, cover_node, new_name, no_tree, nodes_of, nodes_of_each, split_node, tree_before}
+use Rattle.wf_trees.specs.Trees.{AreTrees, IsObstruction, IsTree, Node, Tree, Trees, balance, balance_node, by_cases, by_cover, by_sheets, by_split, case_node, cover_node, new_name, no_tree, nodes_of, nodes_of_each, split_node, tree_before}
 use Rattle.wf_balance.specs.Judge.{balance_fault}
 use Rattle.wf_balance.specs.declared.fault.BalanceFault.{BalanceFault}
 use Rattle.wf_balance.proofs.Faults.{exact}
-use Rattle.wf_tree_check.specs.Judge.{Judged, cover_fault, each_judged, ended, fault_of, flat_fault, judged, within}
+use Rattle.wf_cover.specs.declared.cover.CoverFault.{CoverFault}
+use Rattle.wf_cover.specs.Faults.{cover_fault}
+use Rattle.wf_cover.proofs.Coverings.{exact as exact_cover}
+use Rattle.wf_tree_check.specs.Judge.{Judged, each_judged, ended, fault_of, judged, within}
 use Rattle.wf_tree_check.specs.Limits.{limit_of, most_levels}
-use Rattle.wf_tree_check.specs.declared.fault.CoverFault.{CoverFault}
-use Rattle.wf_tree_check.specs.declared.fault.CoverFault.TheVariants.{OneParticipant, NoCorner, NoSheet, NotFlat}
 use Rattle.wf_tree_check.specs.declared.fault.Limit.{Limit}
 use Rattle.wf_tree_check.specs.declared.fault.Limit.TheVariants.{Depth}
 use Rattle.wf_tree_check.specs.declared.fault.TreeFault.{TreeFault}
 use Rattle.wf_tree_check.specs.declared.fault.TreeFault.TheVariants.{FirstBlock, NoBalance, NoCover, NoNode, NoSimplex, Symmetric, TooLarge}
-
--- ---- covers
-
-flat_if : (c : Covering) (place : ℕ) (tuples : List Tuple) → flat_fault c place tuples ≡ None → list_all (is_flat_on c) tuples ≡ true
-flat_if c place [] h = refl
-flat_if c place (tuple ∷ tuples) h = by (is_flat_on c tuple) refl (flat_if c (suc place) tuples)
-  where
-    by : (b : Bool) → is_flat_on c tuple ≡ b → (flat_fault c (suc place) tuples ≡ None → list_all (is_flat_on c) tuples ≡ true) → list_all (is_flat_on c) (tuple ∷ tuples) ≡ true
-    by true is rest = and_from (is_flat_on c tuple) (list_all (is_flat_on c) tuples) is (rest (sym (ap (λ b. cond b (flat_fault c (suc place) tuples) (Some (NotFlat place))) is) ∙ h))
-    by false is rest = let bad : Some (NotFlat place) ≡ None = sym (ap (λ b. cond b (flat_fault c (suc place) tuples) (Some (NotFlat place))) is) ∙ h in absurd (let none : ⊥ = cc in none)
-
-if_flat : (c : Covering) (place : ℕ) (tuples : List Tuple) → list_all (is_flat_on c) tuples ≡ true → flat_fault c place tuples ≡ None
-if_flat c place [] h = refl
-if_flat c place (tuple ∷ tuples) h =
-    let both = and_parts (is_flat_on c tuple) (list_all (is_flat_on c) tuples) h in
-    ap (λ b. cond b (flat_fault c (suc place) tuples) (Some (NotFlat place))) both.0 ∙ if_flat c (suc place) tuples both.1
-
-positive : (n : ℕ) → (n == 0) ≡ false → 0 < n
-positive zero h = absurd (false≢true (sym h))
-positive (suc n) h = omega arith
-
-not_zero : (n : ℕ) → 0 < n → (n == 0) ≡ false
-not_zero n h = ne_eqb n 0 (λ e. let none : ⊥ = omega (arith, h, e) in none)
-
-covering_if : (t : Task) (simplex sheets corner : ℕ) (moves : List Move) → simplex < length t.delta → cover_fault (by_sheets t (rule_at t simplex) sheets corner moves) ≡ None → IsCovering t (by_sheets t (rule_at t simplex) sheets corner moves)
-covering_if t simplex sheets corner moves low h =
-    by (nat_le 2 n) refl (nat_lt corner n) refl (sheets == 0) refl h
-  where
-    c : Covering
-    c = by_sheets t (rule_at t simplex) sheets corner moves
-
-    n : ℕ
-    n = length (rule_at t simplex).input
-
-    by : (many : Bool) → nat_le 2 n ≡ many → (inside : Bool) → nat_lt corner n ≡ inside → (empty : Bool) → (sheets == 0) ≡ empty →
-        cond (not many) (Some OneParticipant) (cond (not inside) (Some NoCorner) (cond empty (Some NoSheet) (flat_fault c 0 (rule_at t simplex).tuples))) ≡ None → IsCovering t c
-    by true many true inside false some h = record {
-      listed = listed_rule t simplex low;
-      some = leb-true 2 n many;
-      inside = ltb-true corner n inside;
-      some_sheet = positive sheets some;
-      flat = flat_if c 0 (rule_at t simplex).tuples h;
-    }
-    by true many true inside true none h = absurd (let bad : ⊥ = cc in bad)
-    by true many false outside empty e h = absurd (let bad : ⊥ = cc in bad)
-    by false one inside e empty d h = absurd (let bad : ⊥ = cc in bad)
-
-if_covering : (t : Task) (c : Covering) → IsCovering t c → cover_fault c ≡ None
-if_covering t c is =
-    let n = length c.rule.input in
-    ap (λ b. cond (not b) (Some OneParticipant) (cond (not (nat_lt c.corner n)) (Some NoCorner) (cond (c.sheets == 0) (Some NoSheet) (flat_fault c 0 c.rule.tuples)))) (le-leb 2 n is.some)
-    ∙ ap (λ b. cond (not b) (Some NoCorner) (cond (c.sheets == 0) (Some NoSheet) (flat_fault c 0 c.rule.tuples))) (lt-ltb c.corner n is.inside)
-    ∙ ap (λ b. cond b (Some NoSheet) (flat_fault c 0 c.rule.tuples)) (not_zero c.sheets is.some_sheet)
-    ∙ if_flat c 0 c.rule.tuples is.flat
 
 -- ---- what is accepted
 
@@ -179,7 +125,7 @@ sound (suc levels) t k (cover_node simplex sheets corner moves ∷ nodes) behind
         let u = covered (by_sheets t (rule_at t simplex) sheets corner moves) t in
         let here = ltb-true simplex (length t.delta) low in
         let rest = deeper (suc k) nodes behind (within_sound u k (λ v. judged levels v (suc k) nodes) behind is) in
-        first_is t (cover_node simplex sheets corner moves) nodes behind (by_cover simplex sheets corner moves rest.0) (plain, here, covering_if t simplex sheets corner moves here none, rest.1) (ap (λ ns. cover_node simplex sheets corner moves ∷ ns) rest.2)
+        first_is t (cover_node simplex sheets corner moves) nodes behind (by_cover simplex sheets corner moves rest.0) (plain, here, (exact_cover t (by_sheets t (rule_at t simplex) sheets corner moves) (listed_rule t simplex here)).0 none, rest.1) (ap (λ ns. cover_node simplex sheets corner moves ∷ ns) rest.2)
 
 -- ---- what is refused
 
@@ -224,7 +170,7 @@ mutual
       reach (cond t.symmetric (Err (Symmetric k)) (cond (not (nat_lt simplex (length t.delta))) (Err (NoSimplex k)) (of (cover_fault c)))) all rest
       (ap (λ b. cond b (Err (Symmetric k)) (cond (not (nat_lt simplex (length t.delta))) (Err (NoSimplex k)) (of (cover_fault c)))) is.0
       ∙ ap (λ b. cond (not b) (Err (NoSimplex k)) (of (cover_fault c))) (lt-ltb simplex (length t.delta) is.1)
-      ∙ ap of (if_covering t c is.2))
+      ∙ ap of ((exact_cover t c (listed_rule t simplex is.1)).1 is.2))
       (within_reaches u k (λ v. judged levels v (suc k) (nodes_of tree ++ rest)) rest (complete tree u levels (suc k) rest is.3))
 
   each_complete : (trees : Trees) (t : Task) (of : Rule) (parts : List (List Tuple)) (levels k : ℕ) (rest : List Node) → AreTrees trees t of parts → Reaches (each_judged (λ part. judged levels (in_case of part t)) parts k (nodes_of_each trees ++ rest)) rest

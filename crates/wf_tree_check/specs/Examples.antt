@@ -5,7 +5,7 @@ use Rattle.wf_trees.specs.KnownResults.{hourglass, hourglass_by_cases, hourglass
 use Rattle.wf_trees.specs.Trees.{Node, case_node, cover_node, nodes_of, split_node}
 use Rattle.wf_balance.specs.declared.fault.BalanceFault.TheVariants.{NotBalanced}
 use Rattle.wf_tree_check.specs.Judge.{fault_of}
-use Rattle.wf_tree_check.specs.declared.fault.CoverFault.TheVariants.{NoCorner, NoSheet, OneParticipant}
+use Rattle.wf_cover.specs.declared.cover.CoverFault.TheVariants.{NoCorner, NoSheet, OneParticipant}
 use Rattle.wf_tree_check.specs.declared.fault.TreeFault.TheVariants.{Behind, NoBalance, NoCover, NoNode, NoSimplex, Symmetric}
 
 abbrev nodes : List Node

@@ -1,16 +1,15 @@
 -- What the checker answers: the first reason why nodes are no obstruction.
-use Rattle.std.specs.Prelude.{ℕ, zero, suc, ◌==◌, nat_le, nat_lt, not, List, [], ◌∷◌, length, Option, None, Some, Result, Ok, Err, if◌then◌else◌}
+use Rattle.std.specs.Prelude.{ℕ, zero, suc, ◌==◌, nat_lt, not, List, [], ◌∷◌, length, Option, None, Some, Result, Ok, Err, if◌then◌else◌}
 use Rattle.wf_model.specs.Task.{Task, Tuple, first_block}
 use Rattle.wf_counting.specs.Obstruction.{rule_at}
 use Rattle.wf_trees.specs.Cases.{components, in_case}
-use Rattle.wf_trees.specs.Covers.{Covering, covered, is_flat_on}
+use Rattle.wf_trees.specs.Covers.{covered}
 use Rattle.wf_trees.specs.Splits.{by_stars, split}
 use Rattle.wf_trees.specs.Trees.{Node, balance_node, by_sheets, case_node, cover_node, new_name, split_node}
 use Rattle.wf_balance.specs.Judge.{balance_fault}
+use Rattle.wf_cover.specs.Faults.{cover_fault}
 use Rattle.wf_tree_check.specs.Limits.{limit_of, most_levels}
 use Rattle.wf_tree_check.specs.declared.fault.Limit.TheVariants.{Depth}
-use Rattle.wf_tree_check.specs.declared.fault.CoverFault.{CoverFault}
-use Rattle.wf_tree_check.specs.declared.fault.CoverFault.TheVariants.{OneParticipant, NoCorner, NoSheet, NotFlat}
 use Rattle.wf_tree_check.specs.declared.fault.TreeFault.{TreeFault}
 use Rattle.wf_tree_check.specs.declared.fault.TreeFault.TheVariants.{FirstBlock, NoNode, Behind, NoSimplex, Symmetric, NoCover, NoBalance, TooLarge}
 
@@ -25,18 +24,6 @@ each_judged one (part ∷ parts) k nodes = elim (one part k nodes) [
   | Ok behind ↦ each_judged one parts behind.0 behind.1
   | Err fault ↦ Err fault
 ]
-
--- the first tuple, from this place on, round which a sheet does not come to itself
-abbrev pub flat_fault : Covering → ℕ → List Tuple → Option CoverFault
-flat_fault c place [] = None
-flat_fault c place (tuple ∷ tuples) = if is_flat_on c tuple then flat_fault c (suc place) tuples else Some (NotFlat place)
-
-abbrev pub cover_fault : Covering → Option CoverFault
-cover_fault c =
-    if not (nat_le 2 (length c.rule.input)) then Some OneParticipant
-    else if not (nat_lt c.corner (length c.rule.input)) then Some NoCorner
-    else if c.sheets == 0 then Some NoSheet
-    else flat_fault c 0 c.rule.tuples
 
 -- what comes of a refined task, unless it is above a limit
 abbrev pub within : Task → ℕ → (Task → Judged) → Judged

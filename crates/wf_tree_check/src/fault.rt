@@ -5,6 +5,7 @@ ghost use Rattle.wf_tree_check.specs.declared.fault.TreeFault.TheVariants.{OutOf
 
 use std::alloc::AllocError;
 use wf_balance::BalanceFault;
+use wf_cover::CoverFault;
 
 /// A limit of the checker. Above it nodes are refused, whether or not they are an obstruction.
 #[derive(Clone, Copy, Debug, PartialEq, Eq)]
@@ -15,22 +16,6 @@ pub enum Limit {
     Names,
     /// More tuples than a task at hand may have.
     Tuples,
-}
-
-/// Why a cover is none.
-#[derive(Clone, Copy, Debug, PartialEq, Eq)]
-pub enum CoverFault {
-    /// The simplex has a single participant.
-    OneParticipant,
-    /// The simplex has no such place.
-    NoCorner,
-    /// There is no sheet.
-    NoSheet,
-    /// Going round a tuple leads a sheet to another one, or to none.
-    NotFlat {
-        /// The place of the tuple among those of the simplex.
-        tuple: u64,
-    },
 }
 
 /// Why nodes are no obstruction. A node is named by its place in the list, from 0 on.

@@ -2,7 +2,7 @@
 //! balances, given by their nodes in preorder.
 //!
 //! - [`TreeFault`]: why nodes are no obstruction, or above a limit.
-//! - [`CoverFault`]: why a cover is none. [`Limit`]: a limit of the checker.
+//! - [`Limit`]: a limit of the checker.
 //!
 //! `specs/Judge` says which fault is the first. The laws say that nodes without a fault are those
 //! of an obstruction, and that nodes with a fault are those of none. No checker runs this yet.
@@ -11,5 +11,5 @@
 mod fault;
 mod laws;
 
-pub use fault::{CoverFault, Limit, TreeFault};
+pub use fault::{Limit, TreeFault};
 pub use laws::{what_is_accepted_is_an_obstruction, what_is_refused_is_none};

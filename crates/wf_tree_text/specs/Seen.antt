@@ -3,19 +3,13 @@ use Rattle.std.specs.Prelude.{◌≡◌, ◌≤◌, ◌<◌, ℕ, List, length, 
 use Rattle.wf_model.specs.Limits.{most_bytes}
 use Rattle.wf_report.specs.declared.fault.CertFault.{CertFault}
 use Rattle.wf_report.specs.declared.fault.CertFault.TheVariants.{TooLong, Syntax, OutOfMemory}
-use Rattle.wf_trees.specs.Trees.{Move, Node, balance_node, case_node, cover_node, split_node}
+use Rattle.wf_trees.specs.Trees.{Node, balance_node, case_node, cover_node, split_node}
 use Rattle.wf_balance.specs.Multipliers.{multipliers_seen}
+use Rattle.wf_cover.specs.Faults.{moves_seen}
 use Rattle.wf_tree_text.specs.Text.{Obstruction, obstruction_of}
-use Rattle.wf_tree_text.specs.declared.obstruction.Move as code_move
 use Rattle.wf_tree_text.specs.declared.obstruction.TreeNode as code_node
 use Rattle.wf_tree_text.specs.declared.obstruction.TreeNode.TheVariants as node
 use Rattle.wf_tree_text.specs.declared.obstruction.TreeText as code
-
-abbrev pub move_seen : code_move.Move → Move
-move_seen x = record { first = x.first; value = x.value; second = x.second; other = x.other; sheets = x.sheets.items }
-
-abbrev pub moves_seen : List code_move.Move → List Move
-moves_seen xs = map move_seen xs
 
 abbrev pub node_seen : code_node.TreeNode → Node
 node_seen (node.Case simplex) = case_node simplex

@@ -23,7 +23,7 @@ mod writing;
 
 pub use front::{FIRST_LINE, is_obstruction_text};
 pub use laws::{obstructions_are_read_as_written, obstructions_are_written_as_read};
-pub use obstruction::{CoverNode, Move, TreeNode, TreeText};
+pub use obstruction::{TreeNode, TreeText};
 pub use place::line_of;
 pub use reading::read_obstruction;
 pub use writing::write_obstruction;

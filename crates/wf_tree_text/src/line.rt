@@ -4,9 +4,9 @@ ghost use Rattle.std.specs.Prelude.{◌≡◌, IfOk, Some, option_map, None, if�
 ghost use Rattle.wf_tree_text.specs.Steps.{line_seen};
 ghost use Rattle.wf_tree_text.specs.Text.{are_others, are_sheets, balance_of, case_of, cover_of, goes_over, is_cover, line_of_numbers, move_of, multiplier_of, node_line_of, split_of};
 
-use crate::obstruction::Move;
 use std::alloc::{AllocError, Global};
 use wf_balance::{Multiplier, Others};
+use wf_cover::Move;
 
 /// The largest value.
 const LARGEST: u32 = 255;

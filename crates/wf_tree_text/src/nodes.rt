@@ -2,15 +2,17 @@
 
 ghost use Rattle.std.specs.Prelude.{◌≡◌, IfOk};
 ghost use Rattle.wf_balance.specs.Multipliers.{multiplier_seen, multipliers_seen};
-ghost use Rattle.wf_tree_text.specs.Seen.{move_seen, moves_seen, node_seen, nodes_seen};
+ghost use Rattle.wf_cover.specs.Faults.{move_seen, moves_seen};
+ghost use Rattle.wf_tree_text.specs.Seen.{node_seen, nodes_seen};
 ghost use Rattle.wf_tree_text.specs.Steps.{changed, line_seen};
 ghost use Rattle.wf_tree_text.specs.Text.{at_last, is_smaller, may_follow, move_key, multiplier_key, with_line, with_move, with_multiplier};
 
 use crate::line::NodeLine;
-use crate::obstruction::{CoverNode, Move, TreeNode};
+use crate::obstruction::TreeNode;
 use std::alloc::{AllocError, Global};
 use std::cmp::Ordering;
 use wf_balance::{Balance, Multiplier};
+use wf_cover::{Covering, Move};
 
 /// Adds a line to the nodes if it may stand behind them, and answers whether it may.
 pub(crate) fn add_line(
@@ -26,7 +28,7 @@ pub(crate) fn add_line(
         NodeLine::Move(step) => return add_move(nodes, step),
         NodeLine::Case(simplex) => TreeNode::Case { simplex },
         NodeLine::Split(simplex) => TreeNode::Split { simplex },
-        NodeLine::Cover(simplex, sheets, corner) => TreeNode::Cover(CoverNode {
+        NodeLine::Cover(simplex, sheets, corner) => TreeNode::Cover(Covering {
             simplex,
             sheets,
             corner,

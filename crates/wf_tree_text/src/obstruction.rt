@@ -1,6 +1,7 @@
 //! Obstructions as their texts list them.
 
 use wf_balance::Balance;
+use wf_cover::Covering;
 
 /// What the text of an obstruction lists. A checker says whether it is one.
 #[derive(Drop, Debug)]
@@ -27,35 +28,7 @@ pub enum TreeNode {
         simplex: u32,
     },
     /// A tree follows for a cover of a simplex.
-    Cover(CoverNode),
+    Cover(Covering),
     /// A balance, which no tree follows.
     Balance(Balance),
-}
-
-/// A cover of a simplex, without the tree below it.
-#[derive(Drop, Debug)]
-pub struct CoverNode {
-    /// The number of the simplex.
-    pub simplex: u32,
-    /// How many sheets there are, at least 1.
-    pub sheets: u8,
-    /// The place in the simplex whose vertex alone is on sheet 0.
-    pub corner: u8,
-    /// How sheets go over, by ascending first place, value, second place and other value.
-    pub moves: Vec<Move>,
-}
-
-/// How sheets go over from a value at a place to another at a later place.
-#[derive(Drop, Debug)]
-pub struct Move {
-    /// The first place, from 0 on.
-    pub first: u8,
-    /// The value there.
-    pub value: u8,
-    /// The second place, at most 3.
-    pub second: u8,
-    /// The value there.
-    pub other: u8,
-    /// For each sheet at the first place, the sheet at the second.
-    pub sheets: Vec<u8>,
 }

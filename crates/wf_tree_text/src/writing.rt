@@ -3,14 +3,16 @@
 ghost use Rattle.std.specs.Prelude.{◌≡◌, ◌++◌, ◌∷◌, flat_map, map, IfOk, OnOk, string_bytes};
 ghost use Rattle.wf_model.specs.Report.{numbers_text};
 ghost use Rattle.wf_balance.specs.Multipliers.{multiplier_seen, multipliers_seen};
-ghost use Rattle.wf_tree_text.specs.Seen.{move_seen, moves_seen, node_seen, nodes_seen, obstruction_seen};
+ghost use Rattle.wf_cover.specs.Faults.{move_seen, moves_seen};
+ghost use Rattle.wf_tree_text.specs.Seen.{node_seen, nodes_seen, obstruction_seen};
 ghost use Rattle.wf_tree_text.specs.Text.{balance_at, cover_at, line_text, lines_of_node, lines_of_nodes, move_at, multiplier_at, obstruction_text};
 
 use crate::front::FIRST_LINE;
-use crate::obstruction::{CoverNode, Move, TreeNode, TreeText};
+use crate::obstruction::{TreeNode, TreeText};
 use std::alloc::{AllocError, Global};
 use std::fmt::Write;
 use wf_balance::{Balance, Multiplier};
+use wf_cover::{Covering, Move};
 use wf_lines::{put_number, put_words};
 
 /// The text of an obstruction: three lines in front, the nodes with their moves and multipliers,
@@ -54,7 +56,7 @@ fn put_node(text: &mut String, node: &TreeNode) -> Result<(), AllocError>
 }
 
 /// Adds the line of a cover, and those of its moves.
-fn put_cover(text: &mut String, cover: &CoverNode) -> Result<(), AllocError>
+fn put_cover(text: &mut String, cover: &Covering) -> Result<(), AllocError>
     ensures { let own = cover_at cover.now.simplex cover.now.sheets cover.now.corner in
         OnOk result (string_bytes text.new ≡ string_bytes text.old
         ++ flat_map line_text (own ∷ map move_at (moves_seen cover.now.moves.items))) }

@@ -1,0 +1,141 @@
+//! Tests of covers of a torus without a triangle. What is expected was worked out by another
+//! program, from the definitions.
+
+ghost use Rattle.std.specs.Prelude.{◌≡◌};
+
+use std::alloc::{AllocError, Global};
+use std::test::Fail;
+use wf_cover::{CoverFault, Covering, Move, cover_fault, no_fault_exactly_if_covering};
+use wf_refine::first_rows;
+use wf_task::Task;
+
+/// Three processes go along a triangle that a torus lacks.
+const TORUS: &str = concat!(
+    r#"{"delta":[{"in":[[0,0]],"out":[[0]]},{"in":[[1,0]],"out":[[1]]},{"in":[[2,0]],"#,
+    r#""out":[[1]]},{"in":[[0,0],[1,0]],"out":[[0,1]]},{"in":[[0,0],[2,0]],"out":[[0,1]]},"#,
+    r#"{"in":[[1,0],[2,0]],"out":[[1,1]]},{"in":[[0,0],[1,0],[2,0]],"out":[[0,0,1],[0,0,2],[0,"#,
+    r#"1,0],[0,2,0],[0,2,2],[1,0,0],[1,0,1],[1,1,0],[1,1,2],[1,2,1],[1,2,2],[2,0,0],[2,0,2],[2,"#,
+    r#"1,1],[2,1,2],[2,2,0],[2,2,1]]}],"inputs":[[[0,0],[1,0],[2,0]]],"outputs":[[[0,0],[1,1]],"#,
+    r#"[[0,0],[2,1]],[[1,1],[2,1]],[[0,0],[1,0],[2,1]],[[0,0],[1,0],[2,2]],[[0,0],[1,1],[2,0]],"#,
+    r#"[[0,0],[1,2],[2,0]],[[0,0],[1,2],[2,2]],[[0,1],[1,0],[2,0]],[[0,1],[1,0],[2,1]],[[0,1],"#,
+    r#"[1,1],[2,0]],[[0,1],[1,1],[2,2]],[[0,1],[1,2],[2,1]],[[0,1],[1,2],[2,2]],[[0,2],[1,0],"#,
+    r#"[2,0]],[[0,2],[1,0],[2,2]],[[0,2],[1,1],[2,1]],[[0,2],[1,1],[2,2]],[[0,2],[1,2],[2,0]],"#,
+    r#"[[0,2],[1,2],[2,1]]],"processes":3,"symmetric":false,"version":1}"#
+);
+
+/// A place, a value there, another place and a value there.
+type Ends = (u8, u8, u8, u8);
+
+/// Between these values of the torus two sheets change.
+const CHANGES: [Ends; 6] = [
+    (0, 1, 1, 2),
+    (0, 1, 2, 2),
+    (0, 2, 1, 1),
+    (0, 2, 2, 1),
+    (1, 1, 2, 2),
+    (1, 2, 2, 1),
+];
+
+/// Moves between these values, all by the same sheets.
+fn moves_by(alloc: Global, ends: &[Ends], sheets: &[u8]) -> Result<Vec<Move>, AllocError> {
+    let mut moves = Vec::new(alloc);
+    for (first, value, second, other) in ends {
+        let sheets = sheets.to_vec(alloc)?;
+        let (first, value, second, other) = (*first, *value, *second, *other);
+        moves.push(Move {
+            first,
+            value,
+            second,
+            other,
+            sheets,
+        })?;
+    }
+    Ok(moves)
+}
+
+/// A cover of the three, with place 0 as its corner.
+fn cover_by(sheets: u8, moves: Vec<Move>) -> Covering
+    ensures { result.simplex ≡ 6 }
+{
+    Covering {
+        simplex: 6,
+        sheets,
+        corner: 0,
+        moves,
+    }
+}
+
+#[test]
+fn the_torus_has_two_sheets(rt: HostRuntime) -> Result<(), Fail> {
+    let alloc = rt.alloc();
+    let task = Task::read_text(alloc, TORUS.as_bytes())?;
+    let rows = first_rows(alloc, &task)?;
+    assert_eq!(rt; rows.len(), 7);
+    let cover = cover_by(2, moves_by(alloc, &CHANGES, &[1, 0])?);
+    assert_eq!(rt; cover_fault(alloc, &task, &rows, &cover)?, None);
+    let cover = cover_by(2, moves_by(alloc, &CHANGES[..5], &[1, 0])?);
+    let left = CoverFault::NotFlat { tuple: 9 };
+    assert_eq!(rt; cover_fault(alloc, &task, &rows, &cover)?, Some(left));
+    let cover = cover_by(1, moves_by(alloc, &CHANGES, &[1, 0])?);
+    let none = CoverFault::NotFlat { tuple: 8 };
+    assert_eq!(rt; cover_fault(alloc, &task, &rows, &cover)?, Some(none));
+    no_fault_exactly_if_covering();
+    Ok(())
+}
+
+#[test]
+fn the_first_move_counts(rt: HostRuntime) -> Result<(), Fail> {
+    let alloc = rt.alloc();
+    let task = Task::read_text(alloc, TORUS.as_bytes())?;
+    let rows = first_rows(alloc, &task)?;
+    assert_eq!(rt; rows.len(), 7);
+    let mut moves = moves_by(alloc, &CHANGES, &[1, 0])?;
+    moves.append(&mut moves_by(alloc, &CHANGES[..1], &[0, 1])?)?;
+    let cover = cover_by(2, moves);
+    assert_eq!(rt; cover_fault(alloc, &task, &rows, &cover)?, None);
+    let mut moves = moves_by(alloc, &CHANGES[..1], &[0, 1])?;
+    moves.append(&mut moves_by(alloc, &CHANGES, &[1, 0])?)?;
+    let cover = cover_by(2, moves);
+    let left = CoverFault::NotFlat { tuple: 9 };
+    assert_eq!(rt; cover_fault(alloc, &task, &rows, &cover)?, Some(left));
+    Ok(())
+}
+
+#[test]
+fn three_sheets_go_forth_and_back(rt: HostRuntime) -> Result<(), Fail> {
+    let alloc = rt.alloc();
+    let task = Task::read_text(alloc, TORUS.as_bytes())?;
+    let rows = first_rows(alloc, &task)?;
+    assert_eq!(rt; rows.len(), 7);
+    // at value 1 of place 0 the sheets are turned
+    let forth = [(0, 1, 2, 0), (0, 1, 2, 1), (0, 1, 2, 2)];
+    let back = [(1, 0, 0, 1), (1, 1, 0, 1), (1, 2, 0, 1)];
+    let mut moves = moves_by(alloc, &forth, &[1, 2, 0])?;
+    moves.append(&mut moves_by(alloc, &back, &[2, 0, 1])?)?;
+    let cover = cover_by(3, moves);
+    assert_eq!(rt; cover_fault(alloc, &task, &rows, &cover)?, None);
+    let mut moves = moves_by(alloc, &forth, &[1, 2, 0])?;
+    moves.append(&mut moves_by(alloc, &back, &[1, 2, 0])?)?;
+    let cover = cover_by(3, moves);
+    let left = CoverFault::NotFlat { tuple: 5 };
+    assert_eq!(rt; cover_fault(alloc, &task, &rows, &cover)?, Some(left));
+    Ok(())
+}
+
+#[test]
+fn a_cover_has_a_corner_and_a_sheet(rt: HostRuntime) -> Result<(), Fail> {
+    let alloc = rt.alloc();
+    let task = Task::read_text(alloc, TORUS.as_bytes())?;
+    let rows = first_rows(alloc, &task)?;
+    assert_eq!(rt; rows.len(), 7);
+    let mut cover = cover_by(0, Vec::new(alloc));
+    let none = CoverFault::NoSheet;
+    assert_eq!(rt; cover_fault(alloc, &task, &rows, &cover)?, Some(none));
+    cover.corner = 3;
+    let none = CoverFault::NoCorner;
+    assert_eq!(rt; cover_fault(alloc, &task, &rows, &cover)?, Some(none));
+    cover.simplex = 2;
+    let one = CoverFault::OneParticipant;
+    assert_eq!(rt; cover_fault(alloc, &task, &rows, &cover)?, Some(one));
+    Ok(())
+}

@@ -1,0 +1,4 @@
+pub mod TurnLemmas
+pub mod Rounds
+pub mod FaultSteps
+pub mod Coverings

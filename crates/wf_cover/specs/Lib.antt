@@ -1,0 +1,4 @@
+-- What contracts say, here and in the crates above.
+pub mod Faults
+-- How covers are checked: moves under keys.
+pub mod Turns
