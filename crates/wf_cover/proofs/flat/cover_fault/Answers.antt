@@ -12,8 +12,8 @@ returns-then-size-lt2 c =
     let s = c.index-simplices-simplex.result in
     let tuples = c.index-rows-simplex.result in
     let found =
-        rule_found c.args.task.now vec_items c.args.rows.now c.args.cover.now.simplex c.simplices.result.now s tuples c.requires.at_hand c.requires.simplex
-        (c.simplices.ensures.simplices ∙ c.inputs.ensures.inputs) c.index-simplices-simplex.is c.index-rows-simplex.is in
+    rule_found c.args.task.now vec_items c.args.rows.now c.args.cover.now.simplex c.simplices.result.now s tuples c.requires.at_hand c.requires.simplex
+    (c.simplices.ensures.simplices ∙ c.inputs.ensures.inputs) c.index-simplices-simplex.is c.index-rows-simplex.is in
     let size = c.colours-size.ensures.count ∙ sym (size_here t c.args.cover.now s tuples.items found.0) in
     one_participant (cover_seen t c.args.cover.now) (omega (arith, size, c.if-size-lt2.true))
 
@@ -23,8 +23,8 @@ returns-then-cover-size c =
     let s = c.index-simplices-simplex.result in
     let tuples = c.index-rows-simplex.result in
     let found =
-        rule_found c.args.task.now vec_items c.args.rows.now c.args.cover.now.simplex c.simplices.result.now s tuples c.requires.at_hand c.requires.simplex
-        (c.simplices.ensures.simplices ∙ c.inputs.ensures.inputs) c.index-simplices-simplex.is c.index-rows-simplex.is in
+    rule_found c.args.task.now vec_items c.args.rows.now c.args.cover.now.simplex c.simplices.result.now s tuples c.requires.at_hand c.requires.simplex
+    (c.simplices.ensures.simplices ∙ c.inputs.ensures.inputs) c.index-simplices-simplex.is c.index-rows-simplex.is in
     let size = c.colours-size.ensures.count ∙ sym (size_here t c.args.cover.now s tuples.items found.0) in
     no_corner (cover_seen t c.args.cover.now) (omega (arith, size, c.if-size-lt2.false)) (omega (arith, size, c.if-cover-size.true))
 
@@ -34,8 +34,8 @@ returns-then-cover-eq0 c =
     let s = c.index-simplices-simplex.result in
     let tuples = c.index-rows-simplex.result in
     let found =
-        rule_found c.args.task.now vec_items c.args.rows.now c.args.cover.now.simplex c.simplices.result.now s tuples c.requires.at_hand c.requires.simplex
-        (c.simplices.ensures.simplices ∙ c.inputs.ensures.inputs) c.index-simplices-simplex.is c.index-rows-simplex.is in
+    rule_found c.args.task.now vec_items c.args.rows.now c.args.cover.now.simplex c.simplices.result.now s tuples c.requires.at_hand c.requires.simplex
+    (c.simplices.ensures.simplices ∙ c.inputs.ensures.inputs) c.index-simplices-simplex.is c.index-rows-simplex.is in
     let size = c.colours-size.ensures.count ∙ sym (size_here t c.args.cover.now s tuples.items found.0) in
     no_sheet (cover_seen t c.args.cover.now) (omega (arith, size, c.if-size-lt2.false)) (omega (arith, size, c.if-cover-size.false)) c.if-cover-eq0.true
 
@@ -45,8 +45,8 @@ returns c =
     let s = c.index-simplices-simplex.result in
     let tuples = c.index-rows-simplex.result in
     let found =
-        rule_found c.args.task.now vec_items c.args.rows.now c.args.cover.now.simplex c.simplices.result.now s tuples c.requires.at_hand c.requires.simplex
-        (c.simplices.ensures.simplices ∙ c.inputs.ensures.inputs) c.index-simplices-simplex.is c.index-rows-simplex.is in
+    rule_found c.args.task.now vec_items c.args.rows.now c.args.cover.now.simplex c.simplices.result.now s tuples c.requires.at_hand c.requires.simplex
+    (c.simplices.ensures.simplices ∙ c.inputs.ensures.inputs) c.index-simplices-simplex.is c.index-rows-simplex.is in
     let size = c.colours-size.ensures.count ∙ sym (size_here t c.args.cover.now s tuples.items found.0) in
     let of = cover_seen t c.args.cover.now in
     let same = c.deref-2.ensures.value in
