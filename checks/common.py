@@ -36,6 +36,14 @@ def task_file(name):
     return TASKS / f"{name}.json"
 
 
+def write(made):
+    """Writes each text to its file, and tells the files."""
+    for path, text in made.items():
+        path.parent.mkdir(exist_ok=True)
+        path.write_text(text)
+        print(path.relative_to(ROOT))
+
+
 def copy_of_ask(folder):
     """A copy of tools/ask in a folder, with the tasks that it finds by their names, and without a program."""
     for part in ("tools", "python", "gallery/tasks"):

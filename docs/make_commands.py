@@ -116,9 +116,7 @@ def made():
 
 def main():
     common.Script(__doc__).runs_program().asked()
-    for path, text in made().items():
-        path.write_text(text)
-        print(path.relative_to(common.ROOT))
+    common.write(made())
 
 
 if __name__ == "__main__":

@@ -56,9 +56,7 @@ def made():
 
 def main():
     common.Script(__doc__).asked()
-    for path, text in made().items():
-        path.write_text(text)
-        print(path.relative_to(common.ROOT))
+    common.write(made())
 
 
 if __name__ == "__main__":

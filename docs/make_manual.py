@@ -269,10 +269,7 @@ def made():
 
 def main():
     common.Script(__doc__).runs_program().asked()
-    for path, text in made().items():
-        path.parent.mkdir(exist_ok=True)
-        path.write_text(text)
-        print(path.relative_to(common.ROOT))
+    common.write(made())
 
 
 if __name__ == "__main__":

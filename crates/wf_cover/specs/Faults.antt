@@ -27,7 +27,7 @@ abbrev pub flat_fault : Covering → ℕ → List Tuple → Option CoverFault
 flat_fault c place [] = None
 flat_fault c place (tuple ∷ tuples) = if is_flat_on c tuple then flat_fault c (suc place) tuples else Some (NotFlat place)
 
--- the first reason why it is none
+-- the first reason why a cover is none
 abbrev pub cover_fault : Covering → Option CoverFault
 cover_fault c =
     if not (nat_le 2 (length c.rule.input)) then Some OneParticipant

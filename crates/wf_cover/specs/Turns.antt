@@ -26,7 +26,7 @@ pub record HasBytes (m : code.Move) : Type 0 where
   pub second : m.second ≤ 255
   pub other : m.other ≤ 255
 
--- where a table has all moves
+-- a table has all moves
 pub record AreTurns (moves : List code.Move) (turns : ℕ → Option (ℕ × Bool)) : Type 0 where
   pub same : (key : ℕ) → turns key ≡ turn_in 0 moves key
   pub small : AllByRecursion HasBytes moves

@@ -11,7 +11,7 @@ pub struct Move {
     pub second: u8,
     /// The value there.
     pub other: u8,
-    /// The sheet at the second place, for each sheet at the first.
+    /// The sheet at the second place, for each sheet at the first; 0 for a sheet behind the list.
     pub sheets: Vec<u8>,
 }
 
@@ -22,9 +22,10 @@ pub struct Covering {
     pub simplex: u32,
     /// How many sheets there are.
     pub sheets: u8,
-    /// A place of the simplex, from 0 on.
+    /// The place, from 0 on, whose vertex alone is on sheet 0.
     pub corner: u8,
-    /// How sheets go over. Where no move says, a sheet goes over to itself.
+    /// How sheets go over. If no move names two places and their values, each sheet there goes
+    /// over to itself. If several moves do, the first one counts.
     pub moves: Vec<Move>,
 }
 
