@@ -4,7 +4,7 @@ use std::test::Fail;
 use wf_examples::CONSENSUS_2;
 use wf_refine::{
     RefineFault, Ways, ascending, first_rows, in_case, named_rows, new_name, part_numbers,
-    star_names,
+    split_rows, star_names,
 };
 use wf_simplex::Simplex;
 use wf_task::{Row, Task};
@@ -111,6 +111,40 @@ fn a_case_leaves_one_part(rt: HostRuntime) -> Result<(), Fail> {
             assert_eq!(rt; kept[0].as_slice(), [Row::new(&[0])].as_slice());
             assert_eq!(rt; kept[1].as_slice(), [Row::new(&[1])].as_slice());
             assert_eq!(rt; kept[2].as_slice(), [Row::new(&[1, 1])].as_slice());
+        }
+    }
+    Ok(())
+}
+
+/// The hourglass: two triangles on one edge, and a third one on one of their other vertices.
+const HOURGLASS: &str = concat!(
+    r#"{"delta":[{"in":[[0,0]],"out":[[0]]},{"in":[[1,0]],"out":[[1]]},{"in":[[2,0]],"#,
+    r#""out":[[1]]},{"in":[[0,0],[1,0]],"out":[[0,2],[1,1],[1,2]]},{"in":[[0,0],[2,0]],"#,
+    r#""out":[[0,2],[1,1],[1,2]]},{"in":[[1,0],[2,0]],"out":[[1,1]]},"#,
+    r#"{"in":[[0,0],[1,0],[2,0]],"out":[[0,2,2],[1,1,1],[1,2,2]]}],"#,
+    r#""inputs":[[[0,0],[1,0],[2,0]]],"outputs":[[[0,0],[1,2],[2,2]],[[0,1],[1,1],[2,1]],"#,
+    r#"[[0,1],[1,2],[2,2]]],"processes":3,"symmetric":false,"version":1}"#
+);
+
+#[test]
+fn the_hourglass_is_taken_apart(rt: HostRuntime) -> Result<(), Fail> {
+    let alloc = rt.alloc();
+    let task = Task::read_text(alloc, HOURGLASS.as_bytes())?;
+    let rows = first_rows(alloc, &task)?;
+    assert_eq!(rt; rows.len(), 7);
+    if rows.len() == 7 {
+        // where all three decide, 1 stays in the first triangle of process 0, and is 3 in the other
+        let split = split_rows(alloc, &task, &rows, 6)?;
+        let pairs = [Row::new(&[0, 2]), Row::new(&[1, 1]), Row::new(&[3, 2])];
+        let all = [Row::new(&[0, 2, 2]), Row::new(&[1, 1, 1]), Row::new(&[3, 2, 2])];
+        assert_eq!(rt; split.len(), 7);
+        if split.len() == 7 {
+            assert_eq!(rt; split[0].as_slice(), [Row::new(&[0])].as_slice());
+            assert_eq!(rt; split[1].as_slice(), [Row::new(&[1])].as_slice());
+            assert_eq!(rt; split[3].as_slice(), pairs.as_slice());
+            assert_eq!(rt; split[4].as_slice(), pairs.as_slice());
+            assert_eq!(rt; split[5].as_slice(), [Row::new(&[1, 1])].as_slice());
+            assert_eq!(rt; split[6].as_slice(), all.as_slice());
         }
     }
     Ok(())

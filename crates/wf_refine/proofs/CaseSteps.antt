@@ -13,7 +13,7 @@ use Rattle.wf_model.specs.Simplex.{Simplex, same_vertex}
 use Rattle.wf_model.specs.Task.{Rule, Task, Tuple, inputs}
 use Rattle.wf_simplex.proofs.Lemmas.{Has, has-filter, filter-has}
 use Rattle.wf_task.specs.TaskSeen.{rules_seen}
-use Rattle.wf_counting.specs.Obstruction.{no_rule, rule_at}
+use Rattle.wf_counting.specs.Rules.{no_rule, rule_at}
 use Rattle.wf_trees.specs.Alike.{are_alike}
 use Rattle.wf_trees.specs.Cases.{tuples_in_case}
 use Rattle.wf_trees.specs.Parts.{parts}

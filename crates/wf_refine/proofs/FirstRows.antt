@@ -7,7 +7,7 @@ use Rattle.std.proofs.lemmas.Option.{slice_get-get_or}
 use Rattle.wf_model.specs.Task.{IsTask, Rule, Task, Tuple}
 use Rattle.wf_task.specs.TaskSeen.{rules_seen, tuples_at}
 use Rattle.wf_task.proofs.Lemmas.{inner}
-use Rattle.wf_counting.specs.Obstruction.{no_rule}
+use Rattle.wf_counting.specs.Rules.{no_rule}
 use Rattle.wf_refine.specs.AtHand.{IsAtHand, IsRuleAtHand, at_hand}
 
 pub tuples_here : (t : Task) (i : ℕ) (rows : List Tuple) → i < length t.delta → tuples_at t i ≡ Some rows → rows ≡ (get_or t.delta i no_rule).tuples

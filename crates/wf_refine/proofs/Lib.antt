@@ -13,3 +13,9 @@ pub mod CaseSteps
 pub mod NamedRows
 pub mod LargestSteps
 pub mod FirstRows
+pub mod Making
+pub mod PartFaces
+pub mod ChoiceSets
+pub mod SplitSteps
+pub mod Assembling
+pub mod PartCounts

@@ -11,7 +11,7 @@ use Rattle.std.proofs.lemmas.Map.Lookups.{exact_bytes}
 use Rattle.wf_model.specs.Lists.{in_order}
 use Rattle.wf_model.specs.Task.{Tuple}
 use Rattle.wf_simplex.proofs.Lemmas.{Has, sorted-in_order}
-use Rattle.wf_counting.specs.Obstruction.{same_numbers}
+use Rattle.wf_counting.specs.Rules.{same_numbers}
 use Rattle.wf_trees.specs.Tuples.{has_tuple}
 use Rattle.wf_refine.specs.Keys.{row_at}
 

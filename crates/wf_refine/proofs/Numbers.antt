@@ -6,7 +6,7 @@ use Rattle.std.proofs.lemmas.List.{get_or-map, length-map}
 use Rattle.wf_model.specs.Lists.{below}
 use Rattle.wf_model.specs.Task.{Tuple}
 use Rattle.wf_simplex.proofs.Lemmas.{Has}
-use Rattle.wf_counting.specs.Obstruction.{same_numbers}
+use Rattle.wf_counting.specs.Rules.{same_numbers}
 use Rattle.wf_trees.specs.Parts.{parts}
 use Rattle.wf_trees.specs.Tuples.{agree_elsewhere, are_adjacent, value_at}
 use Rattle.wf_refine.specs.declared.ways.Ways.{Ways}

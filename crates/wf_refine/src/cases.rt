@@ -5,7 +5,7 @@ ghost use Rattle.std.specs.Cmp.Lexicographic.{pointwise, slice_cmp};
 ghost use Rattle.std.specs.Ordering.{nat_cmp};
 ghost use Rattle.wf_model.specs.Lists.{in_order};
 ghost use Rattle.wf_model.specs.Simplex.{same_vertex, values_of};
-ghost use Rattle.wf_counting.specs.Obstruction.{rule_at};
+ghost use Rattle.wf_counting.specs.Rules.{rule_at};
 ghost use Rattle.wf_trees.specs.Cases.{components, in_case, is_step};
 ghost use Rattle.wf_trees.specs.Parts.{parts};
 ghost use Rattle.wf_refine.specs.AtHand.{IsAtHand, at_hand};
@@ -94,7 +94,7 @@ fn are_alike(symmetric: bool, one: &Simplex, other: &Simplex) -> bool
 }
 
 /// The value at a place of a simplex.
-fn value_at(simplex: &Simplex, place: u8) -> u8
+pub(crate) fn value_at(simplex: &Simplex, place: u8) -> u8
     requires { place < length simplex.now }
     ensures { result ≡ slice_index (values_of simplex.now) place }
 {

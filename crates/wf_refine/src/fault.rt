@@ -13,6 +13,9 @@ pub const MOST_NAME: u32 = 255;
 pub enum RefineFault {
     /// A name would be above [`MOST_NAME`].
     TooManyNames,
+    /// A step would make more than [`MOST_TUPLES`](crate::MOST_TUPLES) tuples, those counted each
+    /// time that are made more than once.
+    TooManyTuples,
     /// Memory ran out.
     OutOfMemory,
 }

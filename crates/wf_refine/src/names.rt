@@ -8,7 +8,7 @@ ghost use Rattle.wf_model.specs.Lists.{below, has, in_order};
 ghost use Rattle.wf_model.specs.Task.{Tuple};
 ghost use Rattle.wf_set.specs.Sets.{values_in};
 ghost use Rattle.wf_trees.specs.Splits.{names_of, with_names};
-ghost use Rattle.wf_refine.specs.declared.fault.RefineFault.TheVariants.{TooManyNames};
+ghost use Rattle.wf_refine.specs.declared.fault.RefineFault.TheVariants.{TooManyNames, TooManyTuples};
 ghost use Rattle.wf_refine.specs.Names.{AreNumbered, HasLargeName, first_new, has_large_name, most_name, row_of, splitting};
 ghost use Rattle.wf_refine.specs.Near.{most_at_hand};
 
@@ -45,6 +45,7 @@ pub fn star_names(
     ensures refused { result ≡ Err TooManyNames → list_any
         (λ tuple. nat_lt most_name ((splitting simplex.now rows.now new).name place tuple)) rows.now
         ≡ true }
+    ensures names_alone { IfErr result (λ fault. fault ≡ TooManyTuples → ⊥) }
 {
     let numbers = part_numbers(alloc, rows, simplex.colours(), Ways::Star(place))?;
     let names = part_names(alloc, rows, &numbers, place, new)?;
@@ -68,6 +69,7 @@ fn part_names(
     ensures refused { result ≡ Err TooManyNames → (parts : List (List Tuple))
         → AreNumbered place rows.now numbers.now parts
         → HasLargeName (names_of place new [] parts) numbers.now }
+    ensures names_alone { IfErr result (λ fault. fault ≡ TooManyTuples → ⊥) }
 {
     let mut names = Vec::with_capacity(alloc, rows.len())?;
     let mut seen = nothing();
@@ -96,6 +98,7 @@ fn name_for(seen: Mask, next: u32, value: u8) -> Result<(u8, u32), RefineFault>
     ensures few { IfOk result (λ named. named.1 ≤ first_new) }
     ensures seen { IfErr result (λ e. has (values_in seen) value ≡ true) }
     ensures large { IfErr result (λ e. most_name < next) }
+    ensures names_alone { IfErr result (λ fault. fault ≡ TooManyTuples → ⊥) }
 {
     if !holds(seen, value) {
         return Ok((value, next));
@@ -140,6 +143,7 @@ pub fn named_rows(
         named.items ≡ map (with_names (splitting simplex.now rows.now new)) rows.now) }
     ensures refused { result ≡ Err TooManyNames
         → list_any (has_large_name (splitting simplex.now rows.now new)) rows.now ≡ true }
+    ensures names_alone { IfErr result (λ fault. fault ≡ TooManyTuples → ⊥) }
 {
     let size = simplex.colours();
     let mut columns: Vec<Vec<u8>> = Vec::with_capacity(alloc, 4)?;

@@ -1,12 +1,14 @@
 //! Rows in order, and those that a task has at first.
 
-ghost use Rattle.std.specs.Prelude.{◌≡◌, IfOk, filter, map, vec_items};
+ghost use Rattle.std.specs.Prelude.{◌≡◌, ◌≤◌, ◌+◌, ◌++◌, ◌∷◌, [], IfErr, IfOk, OnOk, filter, length, map, vec_items};
 ghost use Rattle.std.specs.Cmp.Lexicographic.{slice_cmp};
 ghost use Rattle.std.specs.Ordering.{nat_cmp};
 ghost use Rattle.wf_model.specs.Lists.{in_order};
 ghost use Rattle.wf_trees.specs.Tuples.{has_tuple};
 ghost use Rattle.wf_refine.specs.AtHand.{IsAtHand, at_hand};
+ghost use Rattle.wf_refine.specs.Limits.{IsTooMany};
 
+use crate::fault::RefineFault;
 use std::alloc::{AllocError, Global};
 use wf_task::{Row, Task};
 
@@ -28,7 +30,7 @@ pub fn first_rows(alloc: Global, task: &Task) -> Result<Vec<Vec<Row>>, AllocErro
 }
 
 /// Whether the row is one of these, which are in order; by binary search.
-pub(crate) fn has_row(rows: &[Row], row: &Row) -> bool
+pub fn has_row(rows: &[Row], row: &Row) -> bool
     requires { in_order (slice_cmp nat_cmp) rows.now ≡ rows.now }
     ensures { result ≡ has_tuple rows.now row.now }
 {
@@ -68,4 +70,24 @@ pub fn ascending(rows: Vec<Row>) -> Vec<Row>
     once.sort_unstable();
     once.dedup();
     once
+}
+
+/// Adds a row to others, of which there may be so many.
+///
+/// # Errors
+///
+/// [`RefineFault::TooManyTuples`] exactly if there are as many already, unless memory runs out.
+pub fn push_within(found: &mut Vec<Row>, most: usize, row: Row) -> Result<(), RefineFault>
+    requires { length found.old.items ≤ most }
+    ensures pushed { OnOk result (found.new.items ≡ found.old.items ++ row ∷ []) }
+    ensures within { OnOk result (length found.new.items ≤ most) }
+    ensures refused { IfErr result (λ fault. IsTooMany fault most (length found.old.items + 1)) }
+{
+    if found.len() >= most {
+        return Err(RefineFault::TooManyTuples);
+    }
+    match found.push(row) {
+        Ok(()) => Ok(()),
+        Err(_) => Err(RefineFault::OutOfMemory),
+    }
 }

@@ -2,7 +2,7 @@ use Rattle.std.proofs.Common.{◌≡◌, ◌<◌, ℕ, [], get_or, length, map, 
 use Rattle.std.specs.Cmp.Lexicographic.{slice_cmp}
 use Rattle.std.specs.Ordering.{nat_cmp}
 use Rattle.wf_model.specs.Lists.{in_order}
-use Rattle.wf_counting.specs.Obstruction.{rule_at}
+use Rattle.wf_counting.specs.Rules.{rule_at}
 use Rattle.wf_trees.specs.Cases.{components, tuples_in_case}
 use Rattle.wf_refine.specs.AtHand.{at_hand}
 use Rattle.wf_refine.proofs.cases.in_case.Given as goal

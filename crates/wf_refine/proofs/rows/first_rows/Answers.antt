@@ -1,6 +1,6 @@
 use Rattle.std.proofs.Common.{length, map, ap, ◌∙◌, arith, get_or, vec_items}
 use Rattle.std.proofs.lemmas.List.{length-map}
-use Rattle.wf_counting.specs.Obstruction.{no_rule}
+use Rattle.wf_counting.specs.Rules.{no_rule}
 use Rattle.wf_refine.proofs.CaseSteps.{length_pushed, rows_pushed}
 use Rattle.wf_refine.proofs.FirstRows.{first_at_hand, same_task, tuples_here}
 use Rattle.wf_refine.proofs.rows.first_rows.Goals as goal

@@ -1,5 +1,5 @@
 use Rattle.std.proofs.Common.{◌≡◌, ◌<◌, ℕ, [], get_or, length, map, vec_items}
-use Rattle.wf_counting.specs.Obstruction.{no_rule}
+use Rattle.wf_counting.specs.Rules.{no_rule}
 use Rattle.wf_refine.proofs.rows.first_rows.Given as goal
 
 abbrev pub invariant-simplices : goal.invariant-simplices

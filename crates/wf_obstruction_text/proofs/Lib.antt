@@ -1,5 +1,0 @@
-pub mod NextLine
-pub mod TupleLines
-pub mod ValueWords
-pub mod Written
-pub mod ReadBack

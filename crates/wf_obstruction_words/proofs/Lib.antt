@@ -1,6 +1,0 @@
-mod Ascending
-mod Firsts
-mod ListsInWords
-mod Runs
-mod SortedTuples
-mod WholeText

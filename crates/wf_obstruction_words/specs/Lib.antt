@@ -1,5 +1,0 @@
--- What the contracts cite, and examples.
-pub mod Words
-pub mod Order
-pub mod Places
-pub mod Examples
