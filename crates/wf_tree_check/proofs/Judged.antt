@@ -2,22 +2,25 @@
 use Rattle.std.proofs.Common.{◌≡◌, ℕ, zero, suc, ◌==◌, nat_lt, not, Bool, true, false, cond, List, [], ◌∷◌, ◌++◌, length, Option, None, Some, Ok, Err, ◌⊎◌, inl, inr, refl, sym, ap, ◌∙◌, subst, append_assoc, append-nil}
 use Rattle.std.proofs.lemmas.Bool.{eq-eqb, eqb-true, lt-ltb, ltb-true}
 use Rattle.wf_model.specs.Task.{Rule, Task, Tuple, first_block}
-use Rattle.wf_counting.specs.Obstruction.{rule_at}
-use Rattle.wf_counting.proofs.CancelledFaces.{listed_rule}
+use Rattle.wf_counting.specs.Rules.{rule_at}
+use Rattle.wf_counting.proofs.Faces.{listed_rule}
 use Rattle.wf_trees.specs.Cases.{components, in_case}
-use Rattle.wf_trees.specs.Covers.{covered}
-use Rattle.wf_trees.specs.Splits.{by_stars, split}
-use Rattle.wf_trees.specs.Trees.{AreTrees, IsObstruction, IsTree, Node, Tree, Trees, balance, balance_node, by_cases, by_cover, by_sheets, by_split, case_node, cover_node, new_name, no_tree, nodes_of, nodes_of_each, split_node, tree_before}
+use Rattle.wf_trees.specs.Covers.{Covering, covered}
+use Rattle.wf_trees.specs.Splits.{Splitting, by_stars, split}
+use Rattle.wf_trees.specs.Trees.{AreTrees, IsObstruction, IsTree, Move, Node, Tree, Trees, balance, balance_node, by_cases, by_cover, by_sheets, by_split, case_node, cover_node, new_name, no_tree, nodes_of, nodes_of_each, split_node, tree_before}
 use Rattle.wf_balance.specs.Judge.{balance_fault}
 use Rattle.wf_balance.specs.declared.fault.BalanceFault.{BalanceFault}
 use Rattle.wf_balance.proofs.Faults.{exact}
 use Rattle.wf_cover.specs.declared.cover.CoverFault.{CoverFault}
+use Rattle.wf_refine.specs.Limits.{split_fault}
+use Rattle.wf_refine.specs.declared.fault.RefineFault.{RefineFault}
 use Rattle.wf_cover.specs.Faults.{cover_fault}
+use Rattle.wf_cover.specs.Limits.{sheets_fault}
 use Rattle.wf_cover.proofs.Coverings.{exact as exact_cover}
-use Rattle.wf_tree_check.specs.Judge.{Judged, each_judged, ended, fault_of, judged, within}
-use Rattle.wf_tree_check.specs.Limits.{limit_of, most_levels}
+use Rattle.wf_tree_check.specs.Judge.{Judged, each_judged, ended, fault_of, judged}
+use Rattle.wf_tree_check.specs.Limits.{limit_of, most_levels, most_nodes}
 use Rattle.wf_tree_check.specs.declared.fault.Limit.{Limit}
-use Rattle.wf_tree_check.specs.declared.fault.Limit.TheVariants.{Depth}
+use Rattle.wf_tree_check.specs.declared.fault.Limit.TheVariants.{Depth, Nodes}
 use Rattle.wf_tree_check.specs.declared.fault.TreeFault.{TreeFault}
 use Rattle.wf_tree_check.specs.declared.fault.TreeFault.TheVariants.{FirstBlock, NoBalance, NoCover, NoNode, NoSimplex, Symmetric, TooLarge}
 
@@ -40,8 +43,8 @@ same_behind : (k : ℕ) (nodes : List Node) (behind : ℕ × List Node) (j : Jud
 same_behind k nodes behind j h is = ap (λ (e : ℕ × List Node). e.1) (same_end j (k, nodes) behind h is)
 
 -- what comes of no fault, or of a fault
-abbrev in_limit : Task → ℕ → (Task → Judged) → Option Limit → Judged
-in_limit t k more o = elim o [ None ↦ more t | Some limit ↦ Err (TooLarge k limit) ]
+abbrev if_within : ℕ → Judged → Option RefineFault → Judged
+if_within k more o = elim o [ Some fault ↦ Err (TooLarge k (limit_of fault)) | None ↦ more ]
 
 abbrev if_balance : ℕ → List Node → Option BalanceFault → Judged
 if_balance k nodes o = elim o [ None ↦ Ok (suc k, nodes) | Some fault ↦ Err (NoBalance k fault) ]
@@ -70,13 +73,17 @@ each_sound t of one sound (part ∷ parts) k nodes behind h = by (one part k nod
         )
     by (Err fault) is bad deeper = absurd (no_end (Err fault) fault behind refl bad)
 
--- a refined task within the limits
-within_sound : (t : Task) (k : ℕ) (more : Task → Judged) (behind : ℕ × List Node) → within t k more ≡ Ok behind → more t ≡ Ok behind
-within_sound t k more behind h = by (limit_of t) h
-  where
-    by : (o : Option Limit) → in_limit t k more o ≡ Ok behind → more t ≡ Ok behind
-    by None is = is
-    by (Some limit) is = absurd (no_end (Err (TooLarge k limit)) (TooLarge k limit) behind refl is)
+-- a step within the limits
+within_sound : (k : ℕ) (more : Judged) (o : Option RefineFault) (behind : ℕ × List Node) → if_within k more o ≡ Ok behind → more ≡ Ok behind
+within_sound k more None behind h = h
+within_sound k more (Some fault) behind h = absurd (no_end (Err (TooLarge k (limit_of fault))) (TooLarge k (limit_of fault)) behind refl h)
+
+-- the split and the cover of a node
+abbrev split_of : Task → ℕ → Splitting
+split_of t simplex = by_stars (rule_at t simplex) (new_name t)
+
+abbrev cover_of : Task → ℕ → ℕ → ℕ → List Move → Covering
+cover_of t simplex sheets corner moves = by_sheets t (rule_at t simplex) sheets corner moves
 
 first_is : (t : Task) (node : Node) (nodes : List Node) (behind : ℕ × List Node) (tree : Tree) → IsTree tree t → node ∷ nodes ≡ nodes_of tree ++ behind.1 → IsFirst t (node ∷ nodes) behind
 first_is t node nodes behind tree is same = (tree, is, same)
@@ -101,31 +108,29 @@ sound (suc levels) t k (case_node simplex ∷ nodes) behind h = by (nat_lt simpl
         first_is t (case_node simplex) nodes behind (by_cases simplex all.0) (ltb-true simplex (length t.delta) low, all.1) (ap (λ ns. case_node simplex ∷ ns) all.2)
     by false high is deeper = absurd (no_end (Err (NoSimplex k)) (NoSimplex k) behind refl is)
 sound (suc levels) t k (split_node simplex ∷ nodes) behind h =
-    by t.symmetric refl (nat_lt simplex (length t.delta)) refl h (sound levels (split (by_stars (rule_at t simplex) (new_name t)) t))
+    by t.symmetric refl (nat_lt simplex (length t.delta)) refl h (sound levels (split (split_of t simplex) t))
   where
     by : (same : Bool) → t.symmetric ≡ same → (b : Bool) → nat_lt simplex (length t.delta) ≡ b →
-        cond same (Err (Symmetric k)) (cond b (within (split (by_stars (rule_at t simplex) (new_name t)) t) k (λ u. judged levels u (suc k) nodes)) (Err (NoSimplex k))) ≡ Ok behind →
-        IsSound (split (by_stars (rule_at t simplex) (new_name t)) t) (judged levels (split (by_stars (rule_at t simplex) (new_name t)) t)) → IsFirst t (split_node simplex ∷ nodes) behind
+        cond same (Err (Symmetric k)) (cond (not b) (Err (NoSimplex k)) (if_within k (judged levels (split (split_of t simplex) t) (suc k) nodes) (split_fault (split_of t simplex) t))) ≡ Ok behind →
+        IsSound (split (split_of t simplex) t) (judged levels (split (split_of t simplex) t)) → IsFirst t (split_node simplex ∷ nodes) behind
     by true same b e is deeper = absurd (no_end (Err (Symmetric k)) (Symmetric k) behind refl is)
     by false plain false high is deeper = absurd (no_end (Err (NoSimplex k)) (NoSimplex k) behind refl is)
     by false plain true low is deeper =
-        let u = split (by_stars (rule_at t simplex) (new_name t)) t in
-        let rest = deeper (suc k) nodes behind (within_sound u k (λ v. judged levels v (suc k) nodes) behind is) in
+        let rest = deeper (suc k) nodes behind (within_sound k (judged levels (split (split_of t simplex) t) (suc k) nodes) (split_fault (split_of t simplex) t) behind is) in
         first_is t (split_node simplex) nodes behind (by_split simplex rest.0) (plain, ltb-true simplex (length t.delta) low, rest.1) (ap (λ ns. split_node simplex ∷ ns) rest.2)
 sound (suc levels) t k (cover_node simplex sheets corner moves ∷ nodes) behind h =
-    by t.symmetric refl (nat_lt simplex (length t.delta)) refl (cover_fault (by_sheets t (rule_at t simplex) sheets corner moves)) refl h (sound levels (covered (by_sheets t (rule_at t simplex) sheets corner moves) t))
+    by t.symmetric refl (nat_lt simplex (length t.delta)) refl (cover_fault (cover_of t simplex sheets corner moves)) refl h (sound levels (covered (cover_of t simplex sheets corner moves) t))
   where
-    by : (same : Bool) → t.symmetric ≡ same → (b : Bool) → nat_lt simplex (length t.delta) ≡ b → (o : Option CoverFault) → cover_fault (by_sheets t (rule_at t simplex) sheets corner moves) ≡ o →
-        cond same (Err (Symmetric k)) (cond (not b) (Err (NoSimplex k)) (if_cover k (within (covered (by_sheets t (rule_at t simplex) sheets corner moves) t) k (λ u. judged levels u (suc k) nodes)) o)) ≡ Ok behind →
-        IsSound (covered (by_sheets t (rule_at t simplex) sheets corner moves) t) (judged levels (covered (by_sheets t (rule_at t simplex) sheets corner moves) t)) → IsFirst t (cover_node simplex sheets corner moves ∷ nodes) behind
+    by : (same : Bool) → t.symmetric ≡ same → (b : Bool) → nat_lt simplex (length t.delta) ≡ b → (o : Option CoverFault) → cover_fault (cover_of t simplex sheets corner moves) ≡ o →
+        cond same (Err (Symmetric k)) (cond (not b) (Err (NoSimplex k)) (if_cover k (if_within k (judged levels (covered (cover_of t simplex sheets corner moves) t) (suc k) nodes) (sheets_fault (cover_of t simplex sheets corner moves) t)) o)) ≡ Ok behind →
+        IsSound (covered (cover_of t simplex sheets corner moves) t) (judged levels (covered (cover_of t simplex sheets corner moves) t)) → IsFirst t (cover_node simplex sheets corner moves ∷ nodes) behind
     by true same b e o f is deeper = absurd (no_end (Err (Symmetric k)) (Symmetric k) behind refl is)
     by false plain false high o f is deeper = absurd (no_end (Err (NoSimplex k)) (NoSimplex k) behind refl is)
     by false plain true low (Some fault) f is deeper = absurd (no_end (Err (NoCover k fault)) (NoCover k fault) behind refl is)
     by false plain true low None none is deeper =
-        let u = covered (by_sheets t (rule_at t simplex) sheets corner moves) t in
         let here = ltb-true simplex (length t.delta) low in
-        let rest = deeper (suc k) nodes behind (within_sound u k (λ v. judged levels v (suc k) nodes) behind is) in
-        first_is t (cover_node simplex sheets corner moves) nodes behind (by_cover simplex sheets corner moves rest.0) (plain, here, (exact_cover t (by_sheets t (rule_at t simplex) sheets corner moves) (listed_rule t simplex here)).0 none, rest.1) (ap (λ ns. cover_node simplex sheets corner moves ∷ ns) rest.2)
+        let rest = deeper (suc k) nodes behind (within_sound k (judged levels (covered (cover_of t simplex sheets corner moves) t) (suc k) nodes) (sheets_fault (cover_of t simplex sheets corner moves) t) behind is) in
+        first_is t (cover_node simplex sheets corner moves) nodes behind (by_cover simplex sheets corner moves rest.0) (plain, here, (exact_cover t (cover_of t simplex sheets corner moves) (listed_rule t simplex here)).0 none, rest.1) (ap (λ ns. cover_node simplex sheets corner moves ∷ ns) rest.2)
 
 -- ---- what is refused
 
@@ -133,12 +138,9 @@ sound (suc levels) t k (cover_node simplex sheets corner moves ∷ nodes) behind
 abbrev Reaches : Judged → List Node → Type 0
 Reaches j rest = ((k : ℕ) × (j ≡ Ok (k, rest))) ⊎ ((k : ℕ) × (limit : Limit) × (j ≡ Err (TooLarge k limit)))
 
-within_reaches : (t : Task) (k : ℕ) (more : Task → Judged) (rest : List Node) → Reaches (more t) rest → Reaches (within t k more) rest
-within_reaches t k more rest h = by (limit_of t)
-  where
-    by : (o : Option Limit) → Reaches (in_limit t k more o) rest
-    by None = h
-    by (Some limit) = inr (k, limit, refl)
+within_reaches : (k : ℕ) (more : Judged) (o : Option RefineFault) (rest : List Node) → Reaches more rest → Reaches (if_within k more o) rest
+within_reaches k more None rest h = h
+within_reaches k more (Some fault) rest h = inr (k, limit_of fault, refl)
 
 reach : (j : Judged) (u : Judged) (rest : List Node) → j ≡ u → Reaches u rest → Reaches j rest
 reach j u rest same h = subst (λ v. Reaches v rest) (sym same) h
@@ -157,21 +159,22 @@ mutual
       (ap (λ b. cond b all (Err (NoSimplex k))) (lt-ltb simplex (length t.delta) is.0))
       (each_complete trees t of (components of) levels (suc k) rest is.1)
   complete (by_split simplex tree) t (suc levels) k rest is =
-      let u = split (by_stars (rule_at t simplex) (new_name t)) t in
-      let all = within u k (λ v. judged levels v (suc k) (nodes_of tree ++ rest)) in
-      reach (cond t.symmetric (Err (Symmetric k)) (cond (nat_lt simplex (length t.delta)) all (Err (NoSimplex k)))) all rest
-      (ap (λ b. cond b (Err (Symmetric k)) (cond (nat_lt simplex (length t.delta)) all (Err (NoSimplex k)))) is.0 ∙ ap (λ b. cond b all (Err (NoSimplex k))) (lt-ltb simplex (length t.delta) is.1))
-      (within_reaches u k (λ v. judged levels v (suc k) (nodes_of tree ++ rest)) rest (complete tree u levels (suc k) rest is.2))
+      let s = by_stars (rule_at t simplex) (new_name t) in
+      let more = judged levels (split s t) (suc k) (nodes_of tree ++ rest) in
+      let all = if_within k more (split_fault s t) in
+      reach (cond t.symmetric (Err (Symmetric k)) (cond (not (nat_lt simplex (length t.delta))) (Err (NoSimplex k)) all)) all rest
+      (ap (λ b. cond b (Err (Symmetric k)) (cond (not (nat_lt simplex (length t.delta))) (Err (NoSimplex k)) all)) is.0 ∙ ap (λ b. cond (not b) (Err (NoSimplex k)) all) (lt-ltb simplex (length t.delta) is.1))
+      (within_reaches k more (split_fault s t) rest (complete tree (split s t) levels (suc k) rest is.2))
   complete (by_cover simplex sheets corner moves tree) t (suc levels) k rest is =
       let c = by_sheets t (rule_at t simplex) sheets corner moves in
-      let u = covered c t in
-      let all = within u k (λ v. judged levels v (suc k) (nodes_of tree ++ rest)) in
+      let more = judged levels (covered c t) (suc k) (nodes_of tree ++ rest) in
+      let all = if_within k more (sheets_fault c t) in
       let of = if_cover k all in
       reach (cond t.symmetric (Err (Symmetric k)) (cond (not (nat_lt simplex (length t.delta))) (Err (NoSimplex k)) (of (cover_fault c)))) all rest
       (ap (λ b. cond b (Err (Symmetric k)) (cond (not (nat_lt simplex (length t.delta))) (Err (NoSimplex k)) (of (cover_fault c)))) is.0
       ∙ ap (λ b. cond (not b) (Err (NoSimplex k)) (of (cover_fault c))) (lt-ltb simplex (length t.delta) is.1)
       ∙ ap of ((exact_cover t c (listed_rule t simplex is.1)).1 is.2))
-      (within_reaches u k (λ v. judged levels v (suc k) (nodes_of tree ++ rest)) rest (complete tree u levels (suc k) rest is.3))
+      (within_reaches k more (sheets_fault c t) rest (complete tree (covered c t) levels (suc k) rest is.3))
 
   each_complete : (trees : Trees) (t : Task) (of : Rule) (parts : List (List Tuple)) (levels k : ℕ) (rest : List Node) → AreTrees trees t of parts → Reaches (each_judged (λ part. judged levels (in_case of part t)) parts k (nodes_of_each trees ++ rest)) rest
   each_complete no_tree t of [] levels k rest is = inl (k, refl)
@@ -190,27 +193,37 @@ mutual
 
 -- ---- in all
 
+-- what is answered of a task whose words may begin with any block, and of few or many nodes
+abbrev if_few : Bool → Judged → Option TreeFault
+if_few many j = cond many (Some (TooLarge most_nodes Nodes)) (ended j)
+
 pub accepted : (t : Task) (nodes : List Node) → fault_of t nodes ≡ None → (tree : Tree) × (nodes_of tree ≡ nodes) × IsObstruction t tree
-accepted t nodes h = by (first_block t == 1) refl (judged most_levels t 0 nodes) refl h
+accepted t nodes h = by (first_block t == 1) refl (nat_lt most_nodes (length nodes)) (judged most_levels t 0 nodes) refl h
   where
-    by : (b : Bool) → (first_block t == 1) ≡ b → (j : Judged) → judged most_levels t 0 nodes ≡ j → cond (not b) (Some FirstBlock) (ended j) ≡ None → (tree : Tree) × (nodes_of tree ≡ nodes) × IsObstruction t tree
-    by false other j is h = absurd (let none : ⊥ = cc in none)
-    by true one (Err fault) is h = absurd (let none : ⊥ = cc in none)
-    by true one (Ok (k, node ∷ more)) is h = absurd (let none : ⊥ = cc in none)
-    by true one (Ok (k, [])) is h =
+    by : (b : Bool) → (first_block t == 1) ≡ b → (many : Bool) (j : Judged) → judged most_levels t 0 nodes ≡ j → cond (not b) (Some FirstBlock) (if_few many j) ≡ None → (tree : Tree) × (nodes_of tree ≡ nodes) × IsObstruction t tree
+    by false other many j is h = absurd (let none : ⊥ = cc in none)
+    by true one true j is h = absurd (let none : ⊥ = cc in none)
+    by true one false (Err fault) is h = absurd (let none : ⊥ = cc in none)
+    by true one false (Ok (k, node ∷ more)) is h = absurd (let none : ⊥ = cc in none)
+    by true one false (Ok (k, [])) is h =
         let found = sound most_levels t 0 nodes (k, []) is in
         (found.0, sym (found.2 ∙ append-nil (nodes_of found.0)), record { all_words = eqb-true (first_block t) 1 one; settled = found.1 })
 
 pub refused : (t : Task) (nodes : List Node) (fault : TreeFault) → fault_of t nodes ≡ Some fault → ((k : ℕ) (limit : Limit) → fault ≡ TooLarge k limit → ⊥) →
     (tree : Tree) → nodes_of tree ≡ nodes → IsObstruction t tree → ⊥
-refused t nodes fault h no_limit tree same is =
-    let j = judged most_levels t 0 nodes in
-    let all : judged most_levels t 0 (nodes_of tree ++ []) ≡ j = ap (judged most_levels t 0) (append-nil (nodes_of tree) ∙ same) in
-    let start : fault_of t nodes ≡ ended j = ap (λ b. cond (not b) (Some FirstBlock) (ended j)) (eq-eqb (first_block t) 1 is.all_words) in
-    elim (complete tree t most_levels 0 [] is.settled) [
-      | inl found ↦ (let bad : None ≡ Some fault = sym (ap ended (sym all ∙ found.1)) ∙ sym start ∙ h in let none : ⊥ = cc in none)
-      | inr limit ↦ no_limit limit.0 limit.1 (same_fault fault (TooLarge limit.0 limit.1) (sym h ∙ start ∙ ap ended (sym all ∙ limit.2)))
-    ]
+refused t nodes fault h no_limit tree same is = by (nat_lt most_nodes (length nodes)) refl
   where
     same_fault : (x y : TreeFault) → Some x ≡ Some y → x ≡ y
     same_fault x y h = cc
+
+    by : (many : Bool) → nat_lt most_nodes (length nodes) ≡ many → ⊥
+    by many size =
+        let j = judged most_levels t 0 nodes in
+        let all : judged most_levels t 0 (nodes_of tree ++ []) ≡ j = ap (judged most_levels t 0) (append-nil (nodes_of tree) ∙ same) in
+        let start : fault_of t nodes ≡ if_few many j = ap (λ b. cond (not b) (Some FirstBlock) (if_few (nat_lt most_nodes (length nodes)) j)) (eq-eqb (first_block t) 1 is.all_words) ∙ ap (λ b. if_few b j) size in
+        few many (sym start ∙ h) (complete tree t most_levels 0 [] is.settled) all
+      where
+        few : (b : Bool) → if_few b (judged most_levels t 0 nodes) ≡ Some fault → Reaches (judged most_levels t 0 (nodes_of tree ++ [])) [] → judged most_levels t 0 (nodes_of tree ++ []) ≡ judged most_levels t 0 nodes → ⊥
+        few true is come all = no_limit most_nodes Nodes (same_fault fault (TooLarge most_nodes Nodes) (sym is))
+        few false is (inl found) all = (let bad : None ≡ Some fault = sym (ap ended (sym all ∙ found.1)) ∙ is in let none : ⊥ = cc in none)
+        few false is (inr limit) all = no_limit limit.0 limit.1 (same_fault fault (TooLarge limit.0 limit.1) (sym is ∙ ap ended (sym all ∙ limit.2)))

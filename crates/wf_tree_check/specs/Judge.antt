@@ -1,17 +1,19 @@
 -- What the checker answers: the first reason why nodes are no obstruction.
-use Rattle.std.specs.Prelude.{ℕ, zero, suc, ◌==◌, nat_lt, not, List, [], ◌∷◌, length, Option, None, Some, Result, Ok, Err, if◌then◌else◌}
+use Rattle.std.specs.Prelude.{◌≡◌, ℕ, zero, suc, ◌==◌, nat_lt, not, List, [], ◌∷◌, length, Option, None, Some, Result, Ok, Err, if◌then◌else◌}
 use Rattle.wf_model.specs.Task.{Task, Tuple, first_block}
-use Rattle.wf_counting.specs.Obstruction.{rule_at}
+use Rattle.wf_counting.specs.Rules.{rule_at}
 use Rattle.wf_trees.specs.Cases.{components, in_case}
 use Rattle.wf_trees.specs.Covers.{covered}
 use Rattle.wf_trees.specs.Splits.{by_stars, split}
 use Rattle.wf_trees.specs.Trees.{Node, balance_node, by_sheets, case_node, cover_node, new_name, split_node}
+use Rattle.wf_refine.specs.Limits.{split_fault}
 use Rattle.wf_balance.specs.Judge.{balance_fault}
 use Rattle.wf_cover.specs.Faults.{cover_fault}
-use Rattle.wf_tree_check.specs.Limits.{limit_of, most_levels}
-use Rattle.wf_tree_check.specs.declared.fault.Limit.TheVariants.{Depth}
+use Rattle.wf_cover.specs.Limits.{sheets_fault}
+use Rattle.wf_tree_check.specs.Limits.{limit_of, most_levels, most_nodes}
+use Rattle.wf_tree_check.specs.declared.fault.Limit.TheVariants.{Depth, Nodes}
 use Rattle.wf_tree_check.specs.declared.fault.TreeFault.{TreeFault}
-use Rattle.wf_tree_check.specs.declared.fault.TreeFault.TheVariants.{FirstBlock, NoNode, Behind, NoSimplex, Symmetric, NoCover, NoBalance, TooLarge}
+use Rattle.wf_tree_check.specs.declared.fault.TreeFault.TheVariants.{FirstBlock, NoNode, Behind, NoSimplex, Symmetric, NoCover, NoBalance, TooLarge, OutOfMemory}
 
 -- what stands behind a tree, with the place of its first node; or why there is no tree
 abbrev pub Judged : Type 0
@@ -24,10 +26,6 @@ each_judged one (part ∷ parts) k nodes = elim (one part k nodes) [
   | Ok behind ↦ each_judged one parts behind.0 behind.1
   | Err fault ↦ Err fault
 ]
-
--- what comes of a refined task, unless it is above a limit
-abbrev pub within : Task → ℕ → (Task → Judged) → Judged
-within t k more = elim (limit_of t) [ None ↦ more t | Some limit ↦ Err (TooLarge k limit) ]
 
 -- A tree of the task at hand that begins with the first of these nodes, which has this place. So
 -- many nodes with others below them may stand above one another from there on.
@@ -42,16 +40,17 @@ judged (suc levels) t k (case_node simplex ∷ nodes) =
     then each_judged (λ part. judged levels (in_case (rule_at t simplex) part t)) (components (rule_at t simplex)) (suc k) nodes
     else Err (NoSimplex k)
 judged (suc levels) t k (split_node simplex ∷ nodes) =
-    if t.symmetric then Err (Symmetric k)
-    else if nat_lt simplex (length t.delta)
-    then within (split (by_stars (rule_at t simplex) (new_name t)) t) k (λ u. judged levels u (suc k) nodes)
-    else Err (NoSimplex k)
-judged (suc levels) t k (cover_node simplex sheets corner moves ∷ nodes) =
+    let s = by_stars (rule_at t simplex) (new_name t) in
     if t.symmetric then Err (Symmetric k)
     else if not (nat_lt simplex (length t.delta)) then Err (NoSimplex k)
-    else elim (cover_fault (by_sheets t (rule_at t simplex) sheets corner moves)) [
+    else elim (split_fault s t) [ Some fault ↦ Err (TooLarge k (limit_of fault)) | None ↦ judged levels (split s t) (suc k) nodes ]
+judged (suc levels) t k (cover_node simplex sheets corner moves ∷ nodes) =
+    let c = by_sheets t (rule_at t simplex) sheets corner moves in
+    if t.symmetric then Err (Symmetric k)
+    else if not (nat_lt simplex (length t.delta)) then Err (NoSimplex k)
+    else elim (cover_fault c) [
       | Some fault ↦ Err (NoCover k fault)
-      | None ↦ within (covered (by_sheets t (rule_at t simplex) sheets corner moves) t) k (λ u. judged levels u (suc k) nodes)
+      | None ↦ elim (sheets_fault c t) [ Some fault ↦ Err (TooLarge k (limit_of fault)) | None ↦ judged levels (covered c t) (suc k) nodes ]
     ]
 
 -- nothing stands behind the tree
@@ -62,4 +61,13 @@ ended (Err fault) = Some fault
 
 -- the first reason why the nodes are no obstruction of the task
 abbrev pub fault_of : Task → List Node → Option TreeFault
-fault_of t nodes = if not (first_block t == 1) then Some FirstBlock else ended (judged most_levels t 0 nodes)
+fault_of t nodes =
+    if not (first_block t == 1) then Some FirstBlock
+    else if nat_lt most_nodes (length nodes) then Some (TooLarge most_nodes Nodes)
+    else ended (judged most_levels t 0 nodes)
+
+-- the checker answers the first fault; if memory ran out, it says nothing of the nodes
+abbrev pub Judges : Result (Unit {0}) TreeFault → Option TreeFault → Type 0
+Judges (Ok u) fault = fault ≡ None
+Judges (Err OutOfMemory) fault = Unit {0}
+Judges (Err e) fault = fault ≡ Some e

@@ -1,20 +1,19 @@
 -- What the checker follows at most.
-use Rattle.std.specs.Prelude.{ℕ, nat_le, not, Option, None, Some, length, sum_by, if◌then◌else◌}
-use Rattle.wf_model.specs.Task.{Task}
-use Rattle.wf_trees.specs.Trees.{new_name}
+use Rattle.std.specs.Prelude.{ℕ}
+use Rattle.wf_refine.specs.declared.fault.RefineFault.{RefineFault}
+use Rattle.wf_refine.specs.declared.fault.RefineFault.TheVariants.{TooManyNames}
 use Rattle.wf_tree_check.specs.declared.fault.Limit.{Limit}
 use Rattle.wf_tree_check.specs.declared.fault.Limit.TheVariants.{Names, Tuples}
+
+-- so many nodes
+abbrev pub most_nodes : ℕ
+most_nodes = 65536
 
 -- so many nodes with others below them may stand above one another
 abbrev pub most_levels : ℕ
 most_levels = 64
 
-abbrev pub most_tuples : ℕ
-most_tuples = 1000000
-
--- the limit that a task at hand is above, if there is one
-abbrev pub limit_of : Task → Option Limit
-limit_of t =
-    if not (nat_le (new_name t) 256)
-    then Some Names
-    else if nat_le (sum_by (λ rule. length rule.tuples) t.delta) most_tuples then None else Some Tuples
+-- the limit that a step is above which has this fault: too many names, or else too many tuples
+abbrev pub limit_of : RefineFault → Limit
+limit_of TooManyNames = Names
+limit_of fault = Tuples

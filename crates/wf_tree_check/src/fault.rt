@@ -10,11 +10,13 @@ use wf_cover::CoverFault;
 /// A limit of the checker. Above it nodes are refused, whether or not they are an obstruction.
 #[derive(Clone, Copy, Debug, PartialEq, Eq)]
 pub enum Limit {
+    /// More nodes than the checker judges.
+    Nodes,
     /// More nodes above one another than the checker follows.
     Depth,
-    /// A name of a value above 255.
+    /// A split or a cover needs a name of a value above 255.
     Names,
-    /// More tuples than a task at hand may have.
+    /// A split or a cover makes more tuples than a task at hand may have.
     Tuples,
 }
 
