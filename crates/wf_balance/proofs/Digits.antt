@@ -5,7 +5,7 @@ use Rattle.std.proofs.lemmas.Bool.{cases_Bool, eqb-true, eqb-false, eq-eqb, ne_e
 use Rattle.std.proofs.lemmas.List.Elements.{recursion_from_All}
 use Rattle.wf_model.specs.Simplex.{Simplex, processes_of, values_of}
 use Rattle.wf_model.specs.Task.{IsTaskSimplex}
-use Rattle.wf_counting.specs.Obstruction.{label, same_numbers}
+use Rattle.wf_counting.specs.Rules.{label, same_numbers}
 use Rattle.wf_balance.specs.Keys.{but, digits_code}
 
 abbrev pub AreDigits : List ℕ → Type 0

@@ -3,7 +3,7 @@ use Rattle.std.proofs.Common.{◌≡◌, ℕ, ◌<◌, ◌≤◌, Bool, List, ma
 use Rattle.std.proofs.lemmas.List.{length-map}
 use Rattle.wf_model.specs.Simplex.{Simplex}
 use Rattle.wf_model.specs.Task.{IsTask, Task}
-use Rattle.wf_counting.specs.Obstruction.{label, labels, rule_at}
+use Rattle.wf_counting.specs.Rules.{label, labels, rule_at}
 use Rattle.wf_trees.specs.Balance.{IsMultiplier, Multiplier, input_of}
 use Rattle.wf_balance.specs.Keys.{but, digits_code, key_of, key_with, key_without}
 use Rattle.wf_balance.proofs.Digits.{but_none, but_removed}

@@ -6,7 +6,7 @@ use Rattle.std.proofs.lemmas.List.{length-map}
 use Rattle.std.proofs.lemmas.List.Sums.{sum_by-cons}
 use Rattle.wf_model.specs.Simplex.{Simplex}
 use Rattle.wf_model.specs.Task.{Task, Tuple, inputs}
-use Rattle.wf_counting.specs.Obstruction.{same_numbers}
+use Rattle.wf_counting.specs.Rules.{same_numbers}
 use Rattle.wf_trees.specs.Alike.{are_alike}
 use Rattle.wf_trees.specs.Balance.{Multiplier, counts_nothing, counts_with, counts_without, input_of, weight_of_vertices, weight_with, weight_without}
 use Rattle.wf_refine.specs.AtHand.{at_hand}

@@ -3,7 +3,7 @@ use Rattle.std.specs.Prelude.{◌≡◌, ℕ, zero, suc, ◌+◌, ◌*◌, ◌%�
 use Rattle.std.specs.List.{AllByRecursion, remove}
 use Rattle.wf_model.specs.Simplex.{Simplex}
 use Rattle.wf_model.specs.Task.{Rule, Task, Tuple}
-use Rattle.wf_counting.specs.Obstruction.{labels}
+use Rattle.wf_counting.specs.Rules.{labels}
 use Rattle.wf_trees.specs.Balance.{Multiplier, input_of}
 
 -- numbers below 2047 as one number

@@ -1,7 +1,7 @@
 //! Keys of equations.
 
 ghost use Rattle.std.specs.Prelude.{◌≡◌, ◌<◌, ◌≤◌, ◌+◌, ◌*◌, ◌^◌, All, length, map, slice_index};
-ghost use Rattle.wf_counting.specs.Obstruction.{label};
+ghost use Rattle.wf_counting.specs.Rules.{label};
 ghost use Rattle.wf_balance.specs.Keys.{but, digits_code, key_of};
 
 use wf_simplex::Simplex;

@@ -1,22 +1,14 @@
-//! Tests of the finder: tasks of which it is known whether they have an obstruction.
+//! Tests of the finder: tasks of which it is known whether they have a balance.
 
+use std::alloc::Global;
 use std::cell::Cell;
 use std::test::Fail;
 use wf_examples::{CONSENSUS_2, RENAMING_2_3};
-use wf_finder::{
-    CommonTuples, FoundObstruction, Listener, Silent, find_obstruction, has_integer_solution,
-};
+use wf_finder::{FinderFault, Listener, Problem, Silent, find_balance, has_integer_solution};
+use wf_refine::first_rows;
 use wf_task::Task;
 
-/// Consensus of two processes, whose first block has both.
-const FIRST_BLOCK: &str = concat!(
-    r#"{"delta":[{"in":[[0,0]],"out":[[0]]},{"in":[[1,1]],"out":[[1]]},{"in":[[0,0],[1,"#,
-    r#"1]],"out":[[0,0],[1,1]]}],"first_block":2,"inputs":[[[0,0],[1,1]]],"#,
-    r#""outputs":[[[0,0],[1,0]],[[0,1],[1,1]]],"processes":2,"symmetric":false,"#,
-    r#""version":2}"#,
-);
-
-/// A task of three processes with an obstruction modulo 4, and none modulo 2.
+/// A task of three processes with a balance modulo 4, and none modulo 2.
 const FOUR: &str = concat!(
     r#"{"delta":[{"in":[[0,0]],"out":[[0],[1],[2]]},{"in":[[1,0]],"out":[[0],[1],[2]]},"#,
     r#"{"in":[[2,0]],"out":[[0],[1],[2]]},{"in":[[0,0],[1,0]],"out":[[0,0],[0,1],[0,2],"#,
@@ -47,18 +39,27 @@ impl Listener for Told {
     }
 }
 
-/// Each alone may not decide the input of the other one, and they may not decide differently.
+/// What the finder knows of a task.
+fn problem_of(alloc: Global, task: &Task) -> Result<Problem, FinderFault> {
+    let rows = first_rows(alloc, task)?;
+    Problem::of(alloc, task, &rows)
+}
+
+/// Process 1 decides 1 alone, so it does as often with process 0. But then process 0 decides 1 as
+/// often, which it may not do alone.
 #[test]
 fn consensus(rt: HostRuntime) -> Result<(), Fail> {
     let alloc = rt.alloc();
     let task = Task::read_text(alloc, CONSENSUS_2.as_bytes())?;
-    let problem = CommonTuples::of(alloc, &task)?;
-    let found = find_obstruction(alloc, &task, &problem, 2, &Silent)?.expect(&rt, "an obstruction");
+    let problem = problem_of(alloc, &task)?;
+    let found = find_balance(alloc, &problem, 2, &Silent)?.expect(&rt, "a balance");
     assert_eq!(rt; found.sum, 1);
-    assert_eq!(rt; found.tuples.len(), 4);
-    let FoundObstruction { sum: _, tuples } = found;
-    let simplices: Vec<u32> = tuples.iter().map(|one| one.simplex).collect(alloc)?;
-    assert_eq!(rt; simplices.as_slice(), [0, 1, 2, 2].as_slice());
+    let places: Vec<(u32, u8)> =
+        found.multipliers.iter().map(|one| (one.simplex, one.place)).collect(alloc)?;
+    assert_eq!(rt; places.as_slice(), [(1, 0), (2, 0), (2, 1)].as_slice());
+    let lone = found.multipliers.iter().map(|one| one.others.size());
+    let sizes: Vec<u8> = lone.collect(alloc)?;
+    assert_eq!(rt; sizes.as_slice(), [0, 1, 1].as_slice());
     Ok(())
 }
 
@@ -68,7 +69,7 @@ fn consensus(rt: HostRuntime) -> Result<(), Fail> {
 fn a_listener_is_told(rt: HostRuntime) -> Result<(), Fail> {
     let alloc = rt.alloc();
     let task = Task::read_text(alloc, CONSENSUS_2.as_bytes())?;
-    let problem = CommonTuples::of(alloc, &task)?;
+    let problem = problem_of(alloc, &task)?;
     let listener = Told {
         unknowns: Cell::new(0),
         equations: Cell::new(0),
@@ -84,32 +85,22 @@ fn a_listener_is_told(rt: HostRuntime) -> Result<(), Fail> {
 fn none(rt: HostRuntime) -> Result<(), Fail> {
     let alloc = rt.alloc();
     let task = Task::read_text(alloc, RENAMING_2_3.as_bytes())?;
-    let problem = CommonTuples::of(alloc, &task)?;
-    assert!(rt; find_obstruction(alloc, &task, &problem, 2, &Silent)?.is_none());
-    assert!(rt; find_obstruction(alloc, &task, &problem, 2_147_483_647, &Silent)?.is_none());
-    assert!(rt; find_obstruction(alloc, &task, &problem, 1, &Silent)?.is_none());
+    let problem = problem_of(alloc, &task)?;
+    assert!(rt; find_balance(alloc, &problem, 2, &Silent)?.is_none());
+    assert!(rt; find_balance(alloc, &problem, 2_147_483_647, &Silent)?.is_none());
+    assert!(rt; find_balance(alloc, &problem, 1, &Silent)?.is_none());
     assert!(rt; has_integer_solution(alloc, &problem, &Silent)?);
     Ok(())
 }
 
-/// A task whose first block has several processes has none that is looked for.
-#[test]
-fn first_block(rt: HostRuntime) -> Result<(), Fail> {
-    let alloc = rt.alloc();
-    let task = Task::read_text(alloc, FIRST_BLOCK.as_bytes())?;
-    let problem = CommonTuples::of(alloc, &task)?;
-    assert!(rt; find_obstruction(alloc, &task, &problem, 2, &Silent)?.is_none());
-    Ok(())
-}
-
-/// A power of a prime may have an obstruction where the prime has none.
+/// A power of a prime may have a balance where the prime has none.
 #[test]
 fn four(rt: HostRuntime) -> Result<(), Fail> {
     let alloc = rt.alloc();
     let task = Task::read_text(alloc, FOUR.as_bytes())?;
-    let problem = CommonTuples::of(alloc, &task)?;
-    assert!(rt; find_obstruction(alloc, &task, &problem, 2, &Silent)?.is_none());
-    let found = find_obstruction(alloc, &task, &problem, 4, &Silent)?.expect(&rt, "an obstruction");
+    let problem = problem_of(alloc, &task)?;
+    assert!(rt; find_balance(alloc, &problem, 2, &Silent)?.is_none());
+    let found = find_balance(alloc, &problem, 4, &Silent)?.expect(&rt, "a balance");
     assert_eq!(rt; found.sum, 2);
     assert!(rt; !has_integer_solution(alloc, &problem, &Silent)?);
     Ok(())

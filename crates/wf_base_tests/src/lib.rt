@@ -27,8 +27,6 @@ mod finder;
 #[cfg(test)]
 mod hints;
 #[cfg(test)]
-mod obstructions;
-#[cfg(test)]
 mod proofs;
 #[cfg(test)]
 mod readers;
@@ -43,6 +41,6 @@ mod tasks;
 #[cfg(test)]
 mod texts;
 #[cfg(test)]
-mod views;
+mod tree_texts;
 #[cfg(test)]
-mod words;
+mod views;

@@ -1,21 +1,18 @@
--- Tests, to be computed, that a task is one and that weighted tuples are an obstruction of it.
-use Rattle.std.proofs.Common.{◌≡◌, ℕ, zero, suc, ◌==◌, ◌&&◌, ◌||◌, ◌<◌, ◌≤◌, not, nat_le, nat_lt, Bool, true, false, List, [], ◌∷◌, map, flat_map, drop, length, slice_index, All, Contains, None, unwrap_or, refl, sym, ap, ◌∙◌, subst, inl, inr, arith}
-use Rattle.std.specs.List.{count_by, list_all, list_any, slice_index_or, sum_by}
+-- Tests, to be computed, that a task is one.
+use Rattle.std.proofs.Common.{◌≡◌, ℕ, suc, ◌==◌, ◌&&◌, ◌<◌, ◌≤◌, nat_le, nat_lt, Bool, true, List, [], ◌∷◌, map, length, All, Contains, None, refl, sym, subst, inl, inr, arith}
+use Rattle.std.specs.List.{count_by, list_all, list_any, sum_by}
 use Rattle.std.specs.Ordering.{nat_cmp}
 use Rattle.std.specs.Cmp.Lexicographic.{pointwise, slice_cmp}
 use Rattle.std.proofs.Common.{zip}
 use Rattle.std.proofs.lemmas.Bool.{and_parts, eqb-true, leb-true, ltb-true, false≢true, or_cases}
 use Rattle.std.proofs.lemmas.List.Elements.{All-from_recursion}
 use Rattle.wf_model.specs.Limits.{most_inputs, most_plain_value, most_processes, most_tuples, most_vertices}
-use Rattle.wf_model.specs.Lists.{has, in_order}
+use Rattle.wf_model.specs.Lists.{in_order}
 use Rattle.wf_model.specs.Simplex.{Simplex, complex_of, is_simplex, processes_of, same_vertex, values_of}
-use Rattle.wf_model.specs.Task.{HasValuesUpTo, IsComplexOn, IsFirstBlock, IsRule, IsSimplexOn, IsTask, Rule, Task, Tuple, first_block, inputs, largest_value, values}
-use Rattle.wf_model.specs.DecisionMap.{HasNoDecisionMap}
-use Rattle.wf_counting.specs.Obstruction.{IsForbidden, IsObstruction, Term, WeightedTuple, adds_up, cancels_on, label, labels, no_rule, parts, same_numbers}
+use Rattle.wf_model.specs.Task.{HasValuesUpTo, IsComplexOn, IsFirstBlock, IsRule, IsSimplexOn, IsTask, Rule, Task, Tuple, inputs, largest_value}
+use Rattle.wf_counting.specs.Rules.{same_numbers}
 use Rattle.wf_counting.proofs.Lists.{each, each_passes}
 use Rattle.wf_counting.proofs.Words.{numbers_equal}
-use Rattle.wf_counting.proofs.Groups.{same_itself}
-use Rattle.wf_counting.proofs.ObstructionsLeaveNoMap.{obstruction_leaves_no_map}
 
 -- ---- lists that are the same
 
@@ -141,84 +138,3 @@ is_task t none h =
         tuples = leb-true (sum_by (λ (rule : Rule). length rule.tuples) t.delta) most_tuples i.1;
       };
     }
-
--- ---- obstructions
-
-abbrev rule_in : List Rule → ℕ → Rule
-rule_in delta simplex = slice_index_or delta simplex no_rule
-
--- the terms with these values, where the task's are these
-abbrev terms_in : Bool → List Rule → List WeightedTuple → List ℕ → List Term
-terms_in symmetric delta xs vs = flat_map (λ x. parts (slice_index vs 0) (drop 1 vs) x.weight (map (label symmetric) (rule_in delta x.simplex).input) x.tuple) xs
-
-abbrev passes_tuple : List Rule → List ℕ → ℕ → WeightedTuple → Bool
-passes_tuple delta vs modulus x =
-    (nat_lt x.simplex (length delta) && (nat_lt 0 x.weight && nat_lt x.weight modulus))
-    && ((length x.tuple == length (rule_in delta x.simplex).input)
-    && (list_all (has vs) x.tuple && not (list_any (λ tuple. same_numbers tuple x.tuple) (rule_in delta x.simplex).tuples)))
-
-abbrev passes_sums : Bool → List Rule → ℕ → ℕ → List Term → Bool
-passes_sums symmetric delta modulus sum all = adds_up modulus sum [] [] all && list_all (λ rule. cancels_on modulus (map (label symmetric) rule.input) all) delta
-
-abbrev pub passes_obstruction : Bool → List Rule → List ℕ → ℕ → ℕ → List WeightedTuple → Bool
-passes_obstruction symmetric delta vs modulus sum xs =
-    (nat_lt 0 sum && nat_lt sum modulus) && (list_all (passes_tuple delta vs modulus) xs && passes_sums symmetric delta modulus sum (terms_in symmetric delta xs vs))
-
-neither : (a b : Bool) → not (a || b) ≡ true → (not a ≡ true) × (not b ≡ true)
-neither true b h = absurd (false≢true h)
-neither false b h = (refl, h)
-
-absent : (tuples : List Tuple) (y : Tuple) → not (list_any (λ tuple. same_numbers tuple y) tuples) ≡ true → Contains tuples y → ⊥
-absent [] y h c = absurd (let none : ⊥ = (let l = c.1 in omega (arith, l)) in none)
-absent (tuple ∷ tuples) y h (zero, l, is) =
-    let away = neither (same_numbers tuple y) (list_any (λ z. same_numbers z y) tuples) h in
-    let here : same_numbers tuple y ≡ true = subst (λ z. same_numbers z y ≡ true) (sym is) (same_itself y) in
-    absurd (false≢true (sym (ap not here) ∙ away.0))
-absent (tuple ∷ tuples) y h (suc k, l, is) = absent tuples y (neither (same_numbers tuple y) (list_any (λ z. same_numbers z y) tuples) h).1 (k, (let m : k < length tuples = omega (arith, l) in m), is)
-
-tuple_is : (t : Task) (vs : List ℕ) (modulus : ℕ) (x : WeightedTuple) → values t ≡ vs → passes_tuple t.delta vs modulus x ≡ true → IsForbidden t modulus x
-tuple_is t vs modulus x known h =
-    let rule = rule_in t.delta x.simplex in
-    let placed = nat_lt 0 x.weight && nat_lt x.weight modulus in
-    let missing = not (list_any (λ tuple. same_numbers tuple x.tuple) rule.tuples) in
-    let long = length x.tuple == length rule.input in
-    let a = and_parts (nat_lt x.simplex (length t.delta) && placed) (long && (list_all (has vs) x.tuple && missing)) h in
-    let b = and_parts (nat_lt x.simplex (length t.delta)) placed a.0 in
-    let c = and_parts (nat_lt 0 x.weight) (nat_lt x.weight modulus) b.1 in
-    let d = and_parts long (list_all (has vs) x.tuple && missing) a.1 in
-    let e = and_parts (list_all (has vs) x.tuple) missing d.1 in
-    record {
-      listed = ltb-true x.simplex (length t.delta) b.0;
-      positive = ltb-true 0 x.weight c.0;
-      reduced = ltb-true x.weight modulus c.1;
-      long = eqb-true (length x.tuple) (length rule.input) d.0;
-      known = subst (λ us. All (λ value. has us value ≡ true) x.tuple) (sym known) (all_pass (has vs) (λ value. has vs value ≡ true) (λ value l. l) x.tuple e.0);
-      forbidden = absent rule.tuples x.tuple e.1;
-    }
-
-pub is_obstruction : (t : Task) (vs : List ℕ) (modulus sum : ℕ) (xs : List WeightedTuple) → first_block t ≡ 1 → values t ≡ vs → passes_obstruction t.symmetric t.delta vs modulus sum xs ≡ true → IsObstruction t modulus sum xs
-is_obstruction t vs modulus sum xs all_words known h =
-    let all = terms_in t.symmetric t.delta xs vs in
-    let fit = list_all (passes_tuple t.delta vs modulus) xs in
-    let added = adds_up modulus sum [] [] all in
-    let gone = list_all (λ (rule : Rule). cancels_on modulus (map (label t.symmetric) rule.input) all) t.delta in
-    let a = and_parts (nat_lt 0 sum && nat_lt sum modulus) (fit && (added && gone)) h in
-    let b = and_parts (nat_lt 0 sum) (nat_lt sum modulus) a.0 in
-    let c = and_parts fit (added && gone) a.1 in
-    let d = and_parts added gone c.1 in
-    record {
-      all_words = all_words;
-      some = ltb-true 0 sum b.0;
-      reduced = ltb-true sum modulus b.1;
-      forbidden = all_pass (passes_tuple t.delta vs modulus) (IsForbidden t modulus) (λ x l. tuple_is t vs modulus x known l) xs c.0;
-      whole = subst (λ us. adds_up modulus sum [] [] (terms_in t.symmetric t.delta xs us) ≡ true) (sym known) d.0;
-      cancels = subst (λ us. All (λ rule. cancels_on modulus (labels t rule.input) (terms_in t.symmetric t.delta xs us) ≡ true) t.delta) (sym known)
-          (all_pass (λ rule. cancels_on modulus (map (label t.symmetric) rule.input) all) (λ rule. cancels_on modulus (labels t rule.input) all ≡ true) (λ rule l. l) t.delta d.1);
-    }
-
--- a task with an obstruction, by computing
-pub never : (t : Task) (vs : List ℕ) (modulus sum : ℕ) (xs : List WeightedTuple) → t.least_block ≡ None → values t ≡ vs → passes_task t.processes t.delta t.outputs ≡ true →
-    passes_obstruction t.symmetric t.delta vs modulus sum xs ≡ true → (r : ℕ) → HasNoDecisionMap t r
-never t vs modulus sum xs none known task obstruction =
-    let first : first_block t ≡ 1 = ap (λ o. unwrap_or o 1) none in
-    obstruction_leaves_no_map t modulus sum xs (is_task t none task) (is_obstruction t vs modulus sum xs first known obstruction)

@@ -1,5 +1,6 @@
--- What holds of each simplex of a complex holds of each part of one that isn't empty.
-use Rattle.std.proofs.Common.{◌≡◌, Bool, true, false, List, [], ◌∷◌, map, filter, flat_map, length, Contains, refl, sym, subst, ◌∙◌, inl, inr}
+-- Rules are listed, and what holds of each simplex of a complex holds of each part of one that isn't
+-- empty.
+use Rattle.std.proofs.Common.{◌≡◌, ℕ, ◌<◌, Bool, true, false, List, [], ◌∷◌, map, filter, flat_map, length, Contains, refl, sym, subst, ◌∙◌, inl, inr}
 use Rattle.std.specs.List.{AllByRecursion}
 use Rattle.std.specs.declared.cmp.Ordering.{Ordering}
 use Rattle.std.specs.declared.cmp.Ordering.TheVariants.{Less, Equal, Greater}
@@ -7,11 +8,17 @@ use Rattle.std.specs.Ordering.{match_ordering, nat_cmp, ordering_then}
 use Rattle.std.specs.Cmp.Lexicographic.{slice_cmp}
 use Rattle.std.specs.FinMap.{IsAntisymmetric, nat_cmp-IsAntisymmetric, slice_cmp-IsAntisymmetric}
 use Rattle.std.proofs.lemmas.Bool.{cases_Bool, false≢true}
+use Rattle.std.proofs.lemmas.List.Elements.{Contains-get_or}
 use Rattle.wf_model.specs.Lists.{in_order, with_element}
 use Rattle.wf_model.specs.Simplex.{Simplex, Vertex, complex_of, faces_of, is_nonempty, parts_of, simplex_cmp, vertex_cmp}
 use Rattle.wf_model.proofs.Headline.{each_of_map}
+use Rattle.wf_model.specs.Task.{Task}
+use Rattle.wf_counting.specs.Rules.{no_rule, rule_at}
 use Rattle.wf_counting.specs.Signs.{keep}
 use Rattle.wf_counting.proofs.Lists.{both_ends, contained, each_of_flat}
+
+pub listed_rule : (t : Task) (n : ℕ) → n < length t.delta → Contains t.delta (rule_at t n)
+listed_rule t n inside = Contains-get_or t.delta n no_rule inside
 
 -- ---- the order of simplices
 

@@ -1,20 +1,13 @@
--- Sums, signs and families.
+-- Sums and signs.
 pub mod Sums
+pub mod Remainders
 pub mod Lists
-pub mod Families
 -- Executions.
 pub mod Words
 pub mod Rounds
 pub mod Signed
-pub mod DecidedFamilies
+pub mod LastViews
 pub mod Renaming
--- Terms.
-pub mod Expansion
-pub mod Reduction
-pub mod Groups
+-- Tasks.
 pub mod Faces
-pub mod CancelledFaces
--- Obstructions.
-pub mod FamilyOfMap
-pub mod ObstructionsLeaveNoMap
 pub mod ComputedTests

@@ -4,11 +4,6 @@ use Rattle.std.specs.List.{AllByRecursion, list_all}
 use Rattle.std.proofs.lemmas.Bool.{and_parts}
 use Rattle.std.proofs.lemmas.List.Elements.{All-contains, All-from_recursion}
 use Rattle.wf_model.specs.Lists.{has}
-use Rattle.wf_counting.specs.Signs.{total}
-
-pub total_same_on : {X : Type 0} (f g : X → ℕ) (xs : List X) → AllByRecursion (λ x. f x ≡ g x) xs → total f xs ≡ total g xs
-total_same_on f g [] h = refl
-total_same_on f g (x ∷ xs) h = let e = total_same_on f g xs h.1 in let d = h.0 in omega (arith, d, e)
 
 pub map_same_on : {X Y : Type 0} (f g : X → Y) (xs : List X) → AllByRecursion (λ x. f x ≡ g x) xs → map f xs ≡ map g xs
 map_same_on f g [] h = refl

@@ -1,7 +1,7 @@
 -- One round: what some of the participants see counts the same with the others and without them.
 use Rattle.std.proofs.Common.{◌≡◌, ℕ, ◌+◌, ◌==◌, ◌&&◌, ◌≤◌, nat_le, not, Bool, true, false, cond, List, [], ◌∷◌, ◌++◌, map, filter, zip, length, refl, ap, ◌∙◌, inl, inr, arith}
 use Rattle.std.specs.Cmp.Lexicographic.{pointwise}
-use Rattle.std.proofs.lemmas.Bool.{cases_Bool, and_parts, eqb-true, false≢true}
+use Rattle.std.proofs.lemmas.Bool.{and_from, and_parts, cases_Bool, eq-eqb, eqb-true, false≢true}
 use Rattle.wf_model.specs.Lists.{below}
 use Rattle.wf_model.specs.Word.{Word, words}
 use Rattle.wf_model.specs.View.{View, base, seen, process_of, round, views_of, visible}
@@ -64,6 +64,10 @@ reduced (x ∷ xs) = put x (reduced xs)
 
 abbrev pub counted : (Bool → List (List ℕ) → ℕ) → Bool → List Signed → ℕ
 counted k b xs = total (λ x. k (same_sign b x.0) x.1) xs
+
+pub numbers_same : (xs : List ℕ) → pointwise (λ x y. x == y) xs xs ≡ true
+numbers_same [] = refl
+numbers_same (x ∷ xs) = and_from (x == x) (pointwise (λ a b. a == b) xs xs) (eq-eqb x x refl) (numbers_same xs)
 
 pub numbers_equal : (xs ys : List ℕ) → pointwise (λ x y. x == y) xs ys ≡ true → xs ≡ ys
 numbers_equal [] [] h = refl

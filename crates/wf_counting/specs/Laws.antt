@@ -1,12 +1,9 @@
--- Why obstructions leave no decision map, for every number of rounds.
+-- What sums over executions with signs have in common, for every number of rounds.
 use Rattle.std.specs.Prelude.{◌≡◌, ◌≤◌, ◌+◌, ℕ, Bool, List, length}
 use Rattle.wf_model.specs.Limits.{most_processes}
 use Rattle.wf_model.specs.Simplex.{Simplex}
-use Rattle.wf_model.specs.Task.{Task, IsTask}
 use Rattle.wf_model.specs.View.{View, base_views}
-use Rattle.wf_model.specs.DecisionMap.{HasNoDecisionMap}
 use Rattle.wf_counting.specs.Signs.{evens, odds, keep}
-use Rattle.wf_counting.specs.Obstruction.{WeightedTuple, IsObstruction}
 
 -- A function of the last views of some participants of a simplex, added up over all executions with
 -- their signs, gives what it gives over the executions of their face alone. What is taken away
@@ -21,8 +18,3 @@ SignedExecutionsAgreeOnFaces = (h : List View → ℕ) (r : ℕ) (s : Simplex) (
 abbrev pub SignedExecutionsAddUpToOne : Type 0
 SignedExecutionsAddUpToOne = (r : ℕ) (s : Simplex) → length s ≤ most_processes
     → evens (λ vs. 1) r (base_views s) ≡ odds (λ vs. 1) r (base_views s) + 1
-
--- a task with an obstruction has no decision map after any number of rounds
-abbrev pub AnObstructionLeavesNoMap : Type 0
-AnObstructionLeavesNoMap = (t : Task) (modulus sum : ℕ) (xs : List WeightedTuple)
-    → IsTask t → IsObstruction t modulus sum xs → (r : ℕ) → HasNoDecisionMap t r

@@ -5,7 +5,7 @@ use Rattle.std.proofs.lemmas.Bool.{eq-eqb, le-leb, leb-true, lt-ltb, ne_eqb}
 use Rattle.std.proofs.lemmas.List.Elements.{recursion_from_All}
 use Rattle.wf_model.specs.Simplex.{Simplex}
 use Rattle.wf_model.specs.Task.{Rule, Task, Tuple}
-use Rattle.wf_counting.specs.Obstruction.{rule_at}
+use Rattle.wf_counting.specs.Rules.{rule_at}
 use Rattle.wf_trees.specs.Covers.{Covering}
 use Rattle.wf_refine.specs.AtHand.{IsRuleAtHand}
 use Rattle.wf_cover.specs.declared.cover.Covering as code_cover

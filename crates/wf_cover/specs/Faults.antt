@@ -1,7 +1,7 @@
 -- Why a cover is none.
 use Rattle.std.specs.Prelude.{◌≡◌, ◌==◌, ◌↔◌, nat_le, nat_lt, not, ℕ, suc, List, [], ◌∷◌, Contains, length, map, Option, None, Some, if◌then◌else◌}
 use Rattle.wf_model.specs.Task.{Task, Tuple}
-use Rattle.wf_counting.specs.Obstruction.{rule_at}
+use Rattle.wf_counting.specs.Rules.{rule_at}
 use Rattle.wf_trees.specs.Covers.{Covering, IsCovering, is_flat_on}
 use Rattle.wf_trees.specs.Trees.{Move, by_sheets}
 use Rattle.wf_cover.specs.declared.cover.Covering as code_cover

@@ -1,11 +1,10 @@
-//! Classes of input simplices that an obstruction does not tell apart.
+//! Classes of input simplices that a balance does not tell apart.
 
 use crate::digits::{behind, with_last, without};
 use crate::fault::{FinderFault, number};
-use crate::tuples::{keep_common, lists, rows};
 use std::alloc::Global;
 use wf_simplex::Simplex;
-use wf_task::Task;
+use wf_task::{Row, Task};
 
 /// The most places of a class.
 const MOST_PLACES: usize = 4;
@@ -13,11 +12,12 @@ const MOST_PLACES: usize = 4;
 /// How many values a label may stand for.
 const VALUES: u64 = 256;
 
-/// An input simplex and its labels.
+/// An input simplex, its labels, and how many processes take part.
 #[derive(Clone, Copy, PartialEq, Eq, PartialOrd, Ord)]
 struct Member {
     labels: u64,
     simplex: u32,
+    size: u8,
 }
 
 /// Simplices with the same labels.
@@ -25,14 +25,13 @@ struct Member {
 pub(crate) struct Class {
     /// How many labels there are.
     pub(crate) size: u8,
+    /// The first simplex.
+    pub(crate) simplex: u32,
     // the labels, each in a digit
     labels: u64,
     // for each place the number of the class without it
     facets: [u32; MOST_PLACES],
-    // the members, from the first one to before the end
-    first_member: usize,
-    end_member: usize,
-    /// The place of the first tuple that all members allow.
+    /// The place of the first tuple that a simplex of the class allows.
     pub(crate) first: usize,
     /// Where these tuples end.
     pub(crate) end: usize,
@@ -52,21 +51,23 @@ impl Class {
 #[derive(Drop)]
 pub(crate) struct Classes {
     classes: Vec<Class>,
-    // the tuples that all members of a class allow, ascending, class by class
+    // the tuples that some simplex of a class allows, ascending, each once, class by class
     tuples: Vec<u64>,
-    members: Vec<Member>,
 }
 
 impl Classes {
-    /// The classes of a task.
-    pub(crate) fn of(alloc: Global, task: &Task) -> Result<Classes, FinderFault> {
+    /// The classes of a task at hand.
+    pub(crate) fn of(
+        alloc: Global,
+        task: &Task,
+        rows: &[Vec<Row>],
+    ) -> Result<Classes, FinderFault> {
         let mut classes = Classes {
             classes: Vec::new(alloc),
             tuples: Vec::new(alloc),
-            members: members(alloc, task)?,
         };
         classes.add_empty_face()?;
-        classes.add_all(alloc, task)?;
+        classes.add_all(alloc, rows, &members(alloc, task)?)?;
         Ok(classes)
     }
 
@@ -75,10 +76,9 @@ impl Classes {
         self.tuples.push(0)?;
         self.classes.push(Class {
             size: 0,
+            simplex: 0,
             labels: 0,
             facets: [0; MOST_PLACES],
-            first_member: 0,
-            end_member: 0,
             first: 0,
             end: 1,
         })?;
@@ -86,55 +86,52 @@ impl Classes {
     }
 
     /// Adds a class for each run of members with the same labels.
-    fn add_all(&mut self, alloc: Global, task: &Task) -> Result<(), FinderFault> {
+    fn add_all(
+        &mut self,
+        alloc: Global,
+        rows: &[Vec<Row>],
+        members: &[Member],
+    ) -> Result<(), FinderFault> {
         let mut first = 0;
-        for place in 0..self.members.len() {
+        for place in 0..members.len() {
             let end = place.saturating_add(1);
-            if self.labels_at(place) != self.labels_at(end) {
-                self.add(alloc, task, first, end)?;
+            if labels_at(members, place) != labels_at(members, end) {
+                let Some(run) = members.get(first..end) else {
+                    return Err(FinderFault::Internal);
+                };
+                self.add(alloc, rows, run)?;
                 first = end;
             }
         }
         Ok(())
     }
 
-    /// The labels of the member at a place; none behind the last one.
-    fn labels_at(&self, place: usize) -> Option<u64> {
-        match self.members.get(place) {
-            Some(member) => Some(member.labels),
-            None => None,
-        }
-    }
-
-    /// Adds the class of the members from the first one to before the end.
+    /// Adds the class of these members.
     fn add(
         &mut self,
         alloc: Global,
-        task: &Task,
-        first_member: usize,
-        end_member: usize,
+        rows: &[Vec<Row>],
+        members: &[Member],
     ) -> Result<(), FinderFault> {
-        let Some(members) = self.members.get(first_member..end_member) else {
-            return Err(FinderFault::Internal);
-        };
         let Some(member) = members.first().copied() else {
             return Err(FinderFault::Internal);
         };
         let first = self.tuples.len();
-        let common = common(alloc, task, members)?;
-        self.tuples.extend_from_slice(&common)?;
-        let end = self.tuples.len();
-        let size = size_of(task, member.simplex)?;
-        let labels = member.labels;
+        self.tuples
+            .extend_from_slice(&united(alloc, rows, members)?)?;
+        let Member {
+            labels,
+            simplex,
+            size,
+        } = member;
         let facets = self.facets(size, labels)?;
         self.classes.push(Class {
             size,
+            simplex,
             labels,
             facets,
-            first_member,
-            end_member,
             first,
-            end,
+            end: self.tuples.len(),
         })?;
         Ok(())
     }
@@ -186,32 +183,13 @@ impl Classes {
             None => Err(FinderFault::Internal),
         }
     }
+}
 
-    /// Whether all members of a class allow a tuple.
-    pub(crate) fn allows(&self, class: Class, tuple: u64) -> Result<bool, FinderFault> {
-        match self.tuples.get(class.first..class.end) {
-            Some(tuples) => Ok(tuples.binary_search(&tuple).is_ok()),
-            None => Err(FinderFault::Internal),
-        }
-    }
-
-    /// The first member of a class that doesn't allow a tuple.
-    pub(crate) fn forbidding(
-        &self,
-        task: &Task,
-        class: Class,
-        tuple: u64,
-    ) -> Result<u32, FinderFault> {
-        let Some(members) = self.members.get(class.first_member..class.end_member) else {
-            return Err(FinderFault::Internal);
-        };
-        let row = crate::tuples::row(tuple, class.size)?;
-        for member in members {
-            if rows(task, member.simplex)?.binary_search(&row).is_err() {
-                return Ok(member.simplex);
-            }
-        }
-        Err(FinderFault::Internal)
+/// The labels of the member at a place; none behind the last one.
+fn labels_at(members: &[Member], place: usize) -> Option<u64> {
+    match members.get(place) {
+        Some(member) => Some(member.labels),
+        None => None,
     }
 }
 
@@ -222,6 +200,7 @@ fn members(alloc: Global, task: &Task) -> Result<Vec<Member>, FinderFault> {
         members.push(Member {
             labels: labels(simplex, task.symmetric())?,
             simplex: number(place)?,
+            size: simplex.colours(),
         })?;
     }
     members.sort_unstable();
@@ -246,27 +225,35 @@ fn labels(simplex: &Simplex, symmetric: bool) -> Result<u64, FinderFault> {
     Ok(labels)
 }
 
-/// How many processes take part in an input simplex.
-fn size_of(task: &Task, simplex: u32) -> Result<u8, FinderFault> {
-    match task.inputs().simplices().get(simplex as usize) {
-        Some(simplex) => Ok(simplex.colours()),
-        None => Err(FinderFault::Internal),
+/// The tuples that some of these members allows, ascending, each once.
+fn united(alloc: Global, rows: &[Vec<Row>], members: &[Member]) -> Result<Vec<u64>, FinderFault> {
+    let mut tuples = Vec::new(alloc);
+    for member in members {
+        let Some(more) = rows.get(member.simplex as usize) else {
+            return Err(FinderFault::Internal);
+        };
+        add_lists(more, &mut tuples)?;
     }
-}
-
-/// The tuples that all these members allow, ascending.
-fn common(alloc: Global, task: &Task, members: &[Member]) -> Result<Vec<u64>, FinderFault> {
-    let Some((first, others)) = members.split_first() else {
-        return Err(FinderFault::Internal);
-    };
-    let rows_of_first = rows(task, first.simplex)?;
-    let mut tuples = lists(alloc, rows_of_first)?;
-    for member in others {
-        let rows_of_other = rows(task, member.simplex)?;
-        if rows_of_other != rows_of_first {
-            let other = lists(alloc, rows_of_other)?;
-            keep_common(&mut tuples, &other);
-        }
+    if members.len() > 1 {
+        tuples.sort_unstable();
+        tuples.dedup();
     }
     Ok(tuples)
+}
+
+/// Adds tuples as lists of digits.
+fn add_lists(rows: &[Row], tuples: &mut Vec<u64>) -> Result<(), FinderFault> {
+    for row in rows {
+        tuples.push(list(row))?;
+    }
+    Ok(())
+}
+
+/// A tuple as a list of digits.
+fn list(row: &Row) -> u64 {
+    let mut list = 0;
+    for value in row.as_slice() {
+        list = with_last(list, u64::from(*value));
+    }
+    list
 }

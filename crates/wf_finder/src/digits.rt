@@ -36,13 +36,6 @@ pub(crate) fn without(list: u64, behind: u8) -> u64 {
     (list >> bits >> DIGIT_BITS << bits) | rest
 }
 
-/// The list with one number more, with so many others behind it.
-pub(crate) fn with(list: u64, behind: u8, number: u64) -> u64 {
-    let bits = bits(behind);
-    let rest = list & !(u64::MAX << bits);
-    (list >> bits << bits << DIGIT_BITS) | (number << bits) | rest
-}
-
 /// How many are behind a place in a list of this size.
 pub(crate) fn behind(size: u8, place: u8) -> u8 {
     size.saturating_sub(place).saturating_sub(1)

@@ -1,16 +1,15 @@
 //! Why the finder gave up, and its limits.
 
 ghost use Rattle.std.specs.Prelude.{◌≡◌, ◌<◌, ◌≤◌, MatchResult};
-ghost use Rattle.wf_finder.specs.declared.fault.FinderFault.TheVariants.{OutOfMemory, TooManyEntries, TooManyEquations};
+ghost use Rattle.wf_finder.specs.declared.fault.FinderFault.TheVariants.{OutOfMemory, TooManyEquations};
 
 use std::alloc::{AllocError, AllocFailed};
-use wf_elimination::{EliminationFault, MOST_ENTRIES};
-use wf_obstruction::ObstructionFault;
+use wf_elimination::EliminationFault;
 
 /// The most equations of a system.
 pub const MOST_EQUATIONS: u64 = 4_000_000;
 
-/// Why the finder gave up. It says nothing about whether the task has an obstruction.
+/// Why the finder gave up. It says nothing about whether the task has a balance.
 #[derive(Clone, Copy, Debug, PartialEq, Eq)]
 pub enum FinderFault {
     /// The system has more than [`MOST_UNKNOWNS`](crate::MOST_UNKNOWNS) unknowns.
@@ -23,7 +22,7 @@ pub enum FinderFault {
         /// How many there were when the finder gave up.
         count: u64,
     },
-    /// More than [`MOST_ENTRIES`] entries would have to be kept.
+    /// More than [`MOST_ENTRIES`](crate::MOST_ENTRIES) entries would have to be kept.
     TooManyEntries {
         /// How many there were when the finder gave up.
         count: u64,
@@ -33,11 +32,16 @@ pub enum FinderFault {
         /// How many there were when the finder gave up.
         count: u64,
     },
-    /// The checker refuses what was found, for this reason. That it can only be too many terms is
-    /// not proved.
-    Refused {
-        /// The reason.
-        fault: ObstructionFault,
+    /// A tree would have more than [`MOST_NODES`](crate::MOST_NODES) nodes.
+    TooManyNodes {
+        /// How many there were when the finder gave up.
+        count: u64,
+    },
+    /// A tree would have more than [`MOST_LEVELS`](crate::MOST_LEVELS) nodes with others below them
+    /// above one another.
+    TooManyLevels {
+        /// The most.
+        count: u64,
     },
     /// A number that the finder keeps names nothing, or doesn't divide another one. No task is
     /// known for which this comes. That it never comes is not proved.
@@ -81,17 +85,6 @@ pub(crate) fn judge_equations(count: u64) -> Result<(), FinderFault>
 {
     if count > MOST_EQUATIONS {
         return Err(FinderFault::TooManyEquations { count });
-    }
-    Ok(())
-}
-
-/// Refuses more entries than [`MOST_ENTRIES`].
-pub(crate) fn judge_entries(count: u64) -> Result<(), FinderFault>
-    ensures { MatchResult result (λ _. count ≤ MOST_ENTRIES)
-        (λ fault. (MOST_ENTRIES < count) × (fault ≡ TooManyEntries count)) }
-{
-    if count > MOST_ENTRIES {
-        return Err(FinderFault::TooManyEntries { count });
     }
     Ok(())
 }

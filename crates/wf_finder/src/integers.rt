@@ -3,7 +3,7 @@
 use crate::equations::Equations;
 use crate::fault::{FinderFault, number};
 use crate::listener::Listener;
-use crate::problem::CommonTuples;
+use crate::problem::Problem;
 use crate::system::solution;
 use std::alloc::Global;
 use wf_elimination::{Ring, prime_powers};
@@ -15,8 +15,8 @@ const LARGE_PRIME: u32 = 2_147_483_647;
 const CONSTANT: i64 = 1;
 
 /// Whether the finder finds a solution over the integers of the equations of a task. Then no
-/// modulus has an obstruction, as the solution is one modulo each number too. If it finds none, the
-/// task may have obstructions or not.
+/// modulus has a balance, as the solution is one modulo each number too. If it finds none, the task
+/// may have balances or not.
 ///
 /// It seeks a solution modulo a large prime, reads each value above the half as a negative number,
 /// and checks with these integers that the constant is 1 and that each equation holds. That a
@@ -26,12 +26,9 @@ const CONSTANT: i64 = 1;
 /// The finder gave up at one of its limits, or memory ran out.
 pub fn has_integer_solution<L: Listener>(
     alloc: Global,
-    problem: &CommonTuples,
+    problem: &Problem,
     listener: &L,
 ) -> Result<bool, FinderFault> {
-    if problem.values.is_empty() {
-        return Ok(false);
-    }
     let ring = large_prime(alloc)?;
     match solution(alloc, problem, ring, listener)? {
         Some(values) => Solution { values }.holds(alloc, problem),
@@ -56,7 +53,7 @@ struct Solution {
 
 impl Solution {
     /// Whether the constant is 1 and each equation holds: also those that follow from others.
-    fn holds(&self, alloc: Global, problem: &CommonTuples) -> Result<bool, FinderFault> {
+    fn holds(&self, alloc: Global, problem: &Problem) -> Result<bool, FinderFault> {
         if self.value(0)? != CONSTANT {
             return Ok(false);
         }
@@ -72,7 +69,7 @@ impl Solution {
     /// Whether each equation of a class holds.
     fn holds_at(
         &self,
-        problem: &CommonTuples,
+        problem: &Problem,
         number: u32,
         equations: &mut Equations,
     ) -> Result<bool, FinderFault> {

@@ -1,20 +1,21 @@
-//! The finder of obstructions.
+//! The finder of obstructions: of balances, and of trees of splits and cases with balances below.
 //!
-//! What it finds was checked. If it finds none, the task may have one all the same: that it finds
-//! one wherever there is one modulo the number is tested, and not proved. If it gave up, it says
-//! at which limit.
+//! Nothing is proved of what it finds: callers have a checker judge it. If it finds none, the task
+//! may have one all the same: that it finds one wherever there is one modulo the number is tested.
+//! If it gave up, it says at which limit.
 //!
-//! - [`CommonTuples`]: what the finder knows of a task.
-//! - [`find_obstruction`]: looks for an obstruction of a task modulo a number.
-//! - [`FoundObstruction`]: an obstruction that was found and checked.
+//! - [`Problem`]: what the finder knows of a task at hand.
+//! - [`find_balance`]: looks for a balance modulo a number.
+//! - [`find_tree`]: looks for a tree of a task, as a [`TreeSearch`] says; [`FoundTree`],
+//!   [`StoppedAt`]: what that comes to.
 //! - [`has_integer_solution`]: whether the finder finds a solution of the equations over the
-//!   integers, which shows that there is no obstruction modulo any number.
+//!   integers, which shows that there is no balance modulo any number.
 //! - [`Listener`], [`Silent`]: who is told how far it is.
 //! - [`FinderFault`]: why the finder gave up.
-//! - [`MOST_UNKNOWNS`], [`MOST_EQUATIONS`], [`MOST_ENTRIES`], [`MOST_STEPS`]: its limits.
+//! - [`MOST_UNKNOWNS`], [`MOST_EQUATIONS`], [`MOST_ENTRIES`], [`MOST_STEPS`], [`MOST_NODES`],
+//!   [`MOST_LEVELS`]: its limits.
 #![tactic(auto)]
 
-mod answer;
 mod classes;
 mod digits;
 mod equations;
@@ -22,15 +23,15 @@ mod fault;
 mod finder;
 mod integers;
 mod listener;
+mod placed;
 mod problem;
-mod smaller;
 mod system;
-mod tuples;
-mod weights;
+mod trees;
 
 pub use fault::{FinderFault, MOST_EQUATIONS};
-pub use finder::{FoundObstruction, find_obstruction};
+pub use finder::find_balance;
 pub use integers::has_integer_solution;
 pub use listener::{Listener, Silent};
-pub use problem::CommonTuples;
+pub use problem::Problem;
+pub use trees::{FoundTree, MOST_LEVELS, MOST_NODES, StoppedAt, TreeSearch, find_tree};
 pub use wf_elimination::{MOST_ENTRIES, MOST_STEPS, MOST_UNKNOWNS};

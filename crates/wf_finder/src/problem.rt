@@ -1,63 +1,43 @@
-//! What the finder knows of a task.
+//! What the finder knows of a task at hand.
 
 use crate::classes::Classes;
-use crate::fault::{FinderFault, number};
-use std::alloc::{AllocError, Global};
-use wf_set::{Mask, holds};
-use wf_task::Task;
+use crate::fault::FinderFault;
+use std::alloc::Global;
+use wf_task::{Row, Task};
 
-/// The largest value that a task may have.
-const LARGEST_VALUE: u8 = 255;
-
-/// What the finder knows of a task: which input simplices it does not tell apart, and which tuples
-/// all of those allow.
+/// What the finder knows of a task at hand: which input simplices it does not tell apart, and which
+/// tuples these allow.
 #[derive(Drop)]
-pub struct CommonTuples {
+pub struct Problem {
     pub(crate) classes: Classes,
-    // the values of the task, ascending
-    pub(crate) values: Vec<u64>,
+    // the least value of the tuples, or 0
+    pub(crate) least: u64,
 }
 
-impl CommonTuples {
-    /// The problem of a task.
+impl Problem {
+    /// The problem of a task at hand: of the task with these rows as the tuples of its input
+    /// simplices, in order.
     ///
     /// # Errors
-    /// Memory ran out.
-    pub fn of(alloc: Global, task: &Task) -> Result<CommonTuples, FinderFault> {
-        Ok(CommonTuples {
-            classes: Classes::of(alloc, task)?,
-            values: listed(alloc, task.values())?,
+    /// There is not one list of rows for each input simplex, or memory ran out.
+    pub fn of(alloc: Global, task: &Task, rows: &[Vec<Row>]) -> Result<Problem, FinderFault> {
+        Ok(Problem {
+            classes: Classes::of(alloc, task, rows)?,
+            least: least(rows),
         })
-    }
-
-    /// The least value of a task that has one.
-    pub(crate) fn least(&self) -> Result<u64, FinderFault> {
-        match self.values.first() {
-            Some(least) => Ok(*least),
-            None => Err(FinderFault::Internal),
-        }
-    }
-
-    /// How many terms there are in all, each once.
-    pub(crate) fn count_terms(&self) -> Result<u64, FinderFault> {
-        let others = (self.values.len() as u64).saturating_sub(1);
-        let each = (self.values.len() as u64).saturating_add(others);
-        let mut count = 0u64;
-        for place in 0..self.classes.count() {
-            let class = self.classes.class(number(place)?)?;
-            count = count.saturating_add(each.saturating_pow(u32::from(class.size)));
-        }
-        Ok(count)
     }
 }
 
-/// The values of a set, ascending.
-fn listed(alloc: Global, set: Mask) -> Result<Vec<u64>, AllocError> {
-    let mut values = Vec::new(alloc);
-    for value in 0..=LARGEST_VALUE {
-        if holds(set, value) {
-            values.push(u64::from(value))?;
-        }
-    }
-    Ok(values)
+/// The least value of some rows, or 0 if they have none.
+fn least(rows: &[Vec<Row>]) -> u64 {
+    let values = rows.iter().filter_map(|tuples| least_of(tuples));
+    u64::from(values.min().unwrap_or(0))
+}
+
+/// The least value of some tuples.
+fn least_of(tuples: &[Row]) -> Option<u8> {
+    let values = tuples
+        .iter()
+        .filter_map(|tuple| tuple.as_slice().iter().copied().min());
+    values.min()
 }

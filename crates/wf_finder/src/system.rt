@@ -1,18 +1,18 @@
 //! The system of equations that a task gives.
 //!
-//! There is an unknown for each tuple that all members of a class allow, and one for the empty
+//! There is an unknown for each tuple that a simplex of a class allows, and one for the empty
 //! face, the constant. For each class, each place and each list of values at the other places there
 //! is an equation: the unknowns whose tuples have these values there add up to the unknown of the
-//! class without the place. Where such equations contradict one another, their multipliers give
-//! weights of tuples: those vanish where a tuple is allowed, and their terms cancel face by face.
+//! class without the place. If such equations contradict one another, their multipliers are a balance:
+//! in the sum each unknown has the factor 0, and the constant has not.
 
 use crate::classes::Class;
-use crate::digits::{behind, number_at, with};
+use crate::digits::{behind, number_at};
 use crate::equations::Equations;
-use crate::fault::{FinderFault, judge_entries, judge_equations, number};
+use crate::fault::{FinderFault, judge_equations, number};
 use crate::listener::Listener;
-use crate::problem::CommonTuples;
-use crate::weights::{Weighing, Weighted, add_up};
+use crate::placed::{FoundBalance, Placed, add_up};
+use crate::problem::Problem;
 use std::alloc::Global;
 use wf_elimination::{Contradiction, Elimination, Multiple, Ring};
 
@@ -33,7 +33,7 @@ struct System {
     ring: Ring,
     // what gives 0 when 1 is added
     minus: u32,
-    // the least value of the task
+    // the least value of the tuples
     least: u64,
     elimination: Elimination,
     // those that were taken in
@@ -42,14 +42,14 @@ struct System {
     equations: Equations,
 }
 
-/// Weights that the system of a task with a value gives modulo a prime power, if its equations
-/// contradict one another.
+/// The balance that the system of a task gives modulo a prime power, if its equations contradict one
+/// another.
 pub(crate) fn solve<L: Listener>(
     alloc: Global,
-    problem: &CommonTuples,
+    problem: &Problem,
     ring: Ring,
     listener: &L,
-) -> Result<Option<Weighing>, FinderFault> {
+) -> Result<Option<FoundBalance>, FinderFault> {
     let mut system = System::of(alloc, problem, ring)?;
     match system.run(problem, listener)? {
         Some(found) => Ok(Some(system.answer(alloc, problem, found)?)),
@@ -57,11 +57,11 @@ pub(crate) fn solve<L: Listener>(
     }
 }
 
-/// A value below the modulus for each unknown of the system of a task with a value, if its
-/// equations don't contradict one another modulo a prime.
+/// A value below the modulus for each unknown of the system of a task, if its equations don't contradict
+/// one another modulo a prime.
 pub(crate) fn solution<L: Listener>(
     alloc: Global,
-    problem: &CommonTuples,
+    problem: &Problem,
     ring: Ring,
     listener: &L,
 ) -> Result<Option<Vec<u32>>, FinderFault> {
@@ -74,11 +74,11 @@ pub(crate) fn solution<L: Listener>(
 
 impl System {
     /// The unknowns of the system, and no equation.
-    fn of(alloc: Global, problem: &CommonTuples, ring: Ring) -> Result<System, FinderFault> {
+    fn of(alloc: Global, problem: &Problem, ring: Ring) -> Result<System, FinderFault> {
         let mut system = System {
             ring,
             minus: ring.negative(1),
-            least: problem.least()?,
+            least: problem.least,
             elimination: Elimination::new(alloc, ring)?,
             taken: Vec::new(alloc),
             equations: Equations::new(alloc),
@@ -88,7 +88,7 @@ impl System {
     }
 
     /// Adds an unknown for each tuple of each class.
-    fn add_unknowns(&mut self, problem: &CommonTuples) -> Result<(), FinderFault> {
+    fn add_unknowns(&mut self, problem: &Problem) -> Result<(), FinderFault> {
         for place in 0..problem.classes.count() {
             let class = problem.classes.class(number(place)?)?;
             self.add_unknowns_of(class)?;
@@ -107,7 +107,7 @@ impl System {
     /// Takes in the equations up to a contradiction, and tells the listener.
     fn run<L: Listener>(
         &mut self,
-        problem: &CommonTuples,
+        problem: &Problem,
         listener: &L,
     ) -> Result<Option<Contradiction>, FinderFault> {
         let modulus = self.ring.modulus();
@@ -120,7 +120,7 @@ impl System {
     /// Takes in the equations class by class, up to a contradiction.
     fn contradiction<L: Listener>(
         &mut self,
-        problem: &CommonTuples,
+        problem: &Problem,
         listener: &L,
     ) -> Result<Option<Contradiction>, FinderFault> {
         for place in 1..problem.classes.count() {
@@ -135,7 +135,7 @@ impl System {
     /// Takes in the equations of a class.
     fn take_in_class<L: Listener>(
         &mut self,
-        problem: &CommonTuples,
+        problem: &Problem,
         number: u32,
         listener: &L,
     ) -> Result<Option<Contradiction>, FinderFault> {
@@ -200,49 +200,35 @@ impl System {
         Ok(self.elimination.take_in(number(place)?)?)
     }
 
-    /// The weights that a contradiction gives.
+    /// The balance that a contradiction gives.
     fn answer(
         &self,
         alloc: Global,
-        problem: &CommonTuples,
+        problem: &Problem,
         found: Contradiction,
-    ) -> Result<Weighing, FinderFault> {
-        let mut weighted = Vec::new(alloc);
-        for multiplier in &self.elimination.multipliers(alloc, found)? {
-            self.add_weights(problem, *multiplier, &mut weighted)?;
-            judge_entries(weighted.len() as u64)?;
+    ) -> Result<FoundBalance, FinderFault> {
+        let mut placed = Vec::new(alloc);
+        for multiple in &self.elimination.multipliers(alloc, found)? {
+            placed.push(self.placed(problem, *multiple)?)?;
         }
-        Ok(Weighing {
+        Ok(FoundBalance {
             sum: self.ring.negative(found.constant),
-            tuples: add_up(alloc, self.ring, weighted)?,
+            multipliers: add_up(alloc, self.ring, placed)?,
         })
     }
 
-    /// Adds the weights of so many times an equation.
-    fn add_weights(
-        &self,
-        problem: &CommonTuples,
-        multiplier: Multiple,
-        weighted: &mut Vec<Weighted>,
-    ) -> Result<(), FinderFault> {
-        let Some(equation) = self.taken.get(multiplier.equation as usize) else {
+    /// The multiplier that says that an equation counts so many times.
+    fn placed(&self, problem: &Problem, multiple: Multiple) -> Result<Placed, FinderFault> {
+        let Some(equation) = self.taken.get(multiple.equation as usize) else {
             return Err(FinderFault::Internal);
         };
         let class = problem.classes.class(equation.class)?;
-        for value in &problem.values {
-            weighted.push(Weighted {
-                class: equation.class,
-                tuple: with(equation.rest, behind(class.size, equation.place), *value),
-                weight: multiplier.factor,
-            })?;
-        }
-        if class.size > 1 {
-            weighted.push(Weighted {
-                class: class.facet(equation.place)?,
-                tuple: equation.rest,
-                weight: self.ring.negative(multiplier.factor),
-            })?;
-        }
-        Ok(())
+        Ok(Placed {
+            simplex: class.simplex,
+            place: equation.place,
+            others: class.size.saturating_sub(1),
+            rest: equation.rest,
+            weight: multiple.factor,
+        })
     }
 }

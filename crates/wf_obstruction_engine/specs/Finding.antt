@@ -1,12 +1,14 @@
 -- A run that looks for an obstruction of the task of a source, and writes what is found.
 use Rattle.std.specs.Prelude.{◌≡◌, ◌==◌, ◌++◌, ℕ, Bool, true, List, [], ◌∷◌, Option, None, Some, Result, Ok, Err, codes, decimal}
+use Rattle.std.specs.List.{list_all}
 use Rattle.wf_model.specs.Lists.{has}
 use Rattle.wf_model.specs.Task.{Task, first_block}
 use Rattle.wf_io.specs.Seen.{Reading, Writing}
-use Rattle.wf_obstruction.specs.declared.fault.ObstructionFault.TheVariants.{FirstBlock}
-use Rattle.wf_obstruction_text.specs.Text.{Obstruction, obstruction_of}
+use Rattle.wf_trees.specs.Trees.{Node, balance_node}
+use Rattle.wf_tree_text.specs.Text.{Obstruction, obstruction_of}
 use Rattle.wf_run.specs.Run.{Hands, IsTaskOf, Next, Reads}
-use Rattle.wf_verify_engine.specs.Certificates.{IsSound}
+use Rattle.wf_verify_engine.specs.Obstructions.{IsSound}
+use Rattle.wf_run.specs.declared.obstruction.ObstructionFault.TheVariants.{FirstBlock}
 use Rattle.wf_run.specs.declared.fault.RunFault.{RunFault}
 use Rattle.wf_run.specs.declared.fault.RunFault.TheVariants as run
 use Rattle.wf_obstruction_engine.specs.declared.finding.Finding.{Finding}
@@ -28,12 +30,17 @@ abbrev pub is_tried : Option ℕ → ℕ → Bool
 is_tried (Some asked) modulus = modulus == asked
 is_tried None modulus = has moduli modulus
 
+-- the same of the modulus of a balance
+abbrev pub is_tried_at : Option ℕ → Node → Bool
+is_tried_at asked (balance_node modulus sum xs) = is_tried asked modulus
+is_tried_at asked node = true
+
 -- A text that is written: it is read as an obstruction of the task, which `verify` accepts. So no
 -- function on the views is a decision map, after any number of rounds.
 pub record IsWritten (asked : Option ℕ) (t : Task) (text : List ℕ) : Type 0 where
   pub obstruction : Obstruction
   pub read : obstruction_of text ≡ Ok obstruction
-  pub tried : is_tried asked obstruction.modulus ≡ true
+  pub tried : list_all (is_tried_at asked) obstruction.nodes ≡ true
   pub sound : IsSound t obstruction
 
 -- an obstruction is the answer if one was found, and otherwise the empty text is
@@ -74,19 +81,24 @@ FindsObstruction asked source source' sink sink' result =
 
 -- the moduli without an obstruction
 abbrev pub tried_text : Tried → List ℕ
-tried_text (tried.Only modulus) = codes "no obstruction modulo " ++ decimal modulus
-tried_text tried.Each = codes "no obstruction modulo 2, 3, 4, 5, 7, 8, 9, 2147483647"
-tried_text tried.AllNumbers = codes "no obstruction for any modulus"
+tried_text (tried.Only modulus) = codes "no obstruction by splits, cases and balances modulo " ++ decimal modulus
+tried_text tried.Each = codes "no obstruction by splits, cases and balances modulo 2, 3, 4, 5, 7, 8, 9, 2147483647"
+tried_text tried.AllNumbers = codes "no obstruction by splits, cases and balances of any modulus"
 
 abbrev pub limit_text : SearchLimit → List ℕ
 limit_text (limit.Unknowns count) = decimal count ++ codes " unknowns"
 limit_text (limit.Equations count) = decimal count ++ codes " equations"
 limit_text (limit.Entries count) = decimal count ++ codes " entries"
 limit_text (limit.Steps count) = decimal count ++ codes " steps"
-limit_text limit.Terms = codes "more terms than verify adds up"
+limit_text (limit.Nodes count) = decimal count ++ codes " nodes"
+limit_text (limit.Levels count) = decimal count ++ codes " levels"
 limit_text limit.Length = codes "a longer text than verify reads"
 limit_text limit.Internal = codes "an internal error"
 
--- the text of a search that gave up: at which modulus and limit
+abbrev pub modulus_text : Option ℕ → List ℕ
+modulus_text None = []
+modulus_text (Some modulus) = codes " modulo " ++ decimal modulus
+
+-- the text of a search that gave up: at which modulus, if it was in a system, and at which limit
 abbrev pub gave_up_text : gave_up.GaveUp → List ℕ
-gave_up_text at = codes "60 GaveUp modulo " ++ (decimal at.modulus ++ (codes ": " ++ limit_text at.limit))
+gave_up_text at = codes "60 GaveUp" ++ (modulus_text at.modulus ++ (codes ": " ++ limit_text at.limit))

@@ -31,8 +31,8 @@ pub enum Tried {
 /// refusal, 60.
 #[derive(Clone, Copy, Debug, PartialEq, Eq)]
 pub struct GaveUp {
-    /// The modulus.
-    pub modulus: u32,
+    /// The modulus, if the search stopped in a system of equations.
+    pub modulus: Option<u32>,
     /// The limit.
     pub limit: SearchLimit,
 }
@@ -48,12 +48,14 @@ pub enum SearchLimit {
     Entries(u64),
     /// So many steps were taken.
     Steps(u64),
-    /// The tuples that were found have more terms than `verify` adds up.
-    Terms,
-    /// The text of the tuples that were found is longer than `verify` reads.
+    /// A tree would have more nodes than so many.
+    Nodes(u64),
+    /// A tree would have more nodes above one another than so many.
+    Levels(u64),
+    /// The text of what was found is longer than `verify` reads.
     Length,
-    /// The tuples that were found are refused, or a number names nothing. No task is known for
-    /// which this comes, and that none exists is not proved.
+    /// What was found is refused, or a number names nothing. No task is known for which this comes,
+    /// and that none exists is not proved.
     Internal,
 }
 
@@ -62,9 +64,22 @@ impl fmt::Display for Tried {
 
     fn fmt<W: fmt::Write>(&self, f: &mut fmt::Formatter<W>) -> fmt::Result {
         match *self {
-            Tried::Only(modulus) => write!(f, "no obstruction modulo {modulus}"),
-            Tried::Each => { write!(f, "no obstruction modulo 2, 3, 4, 5, 7, 8, 9, 2147483647") }
-            Tried::AllNumbers => write!(f, "no obstruction for any modulus"),
+            Tried::Only(modulus) => {
+                write!(
+                    f,
+                    "no obstruction by splits, cases and balances modulo {modulus}"
+                )
+            }
+            Tried::Each => write!(
+                f,
+                "no obstruction by splits, cases and balances modulo 2, 3, 4, 5, 7, 8, 9, 2147483647"
+            ),
+            Tried::AllNumbers => {
+                write!(
+                    f,
+                    "no obstruction by splits, cases and balances of any modulus"
+                )
+            }
         }
     }
 }
@@ -73,7 +88,10 @@ impl fmt::Display for GaveUp {
     ghost output = { λ gave_up. Some (gave_up_text gave_up) };
 
     fn fmt<W: fmt::Write>(&self, f: &mut fmt::Formatter<W>) -> fmt::Result {
-        write!(f, "60 GaveUp modulo {}: {}", self.modulus, self.limit)
+        match self.modulus {
+            Some(modulus) => write!(f, "60 GaveUp modulo {modulus}: {}", self.limit),
+            None => write!(f, "60 GaveUp: {}", self.limit),
+        }
     }
 }
 
@@ -86,7 +104,8 @@ impl fmt::Display for SearchLimit {
             SearchLimit::Equations(count) => write!(f, "{count} equations"),
             SearchLimit::Entries(count) => write!(f, "{count} entries"),
             SearchLimit::Steps(count) => write!(f, "{count} steps"),
-            SearchLimit::Terms => write!(f, "more terms than verify adds up"),
+            SearchLimit::Nodes(count) => write!(f, "{count} nodes"),
+            SearchLimit::Levels(count) => write!(f, "{count} levels"),
             SearchLimit::Length => write!(f, "a longer text than verify reads"),
             SearchLimit::Internal => write!(f, "an internal error"),
         }

@@ -1,9 +1,11 @@
 //! A run: from a task's bytes to an obstruction's.
 
 ghost use Rattle.std.specs.Prelude.{◌≡◌, OnOk};
+ghost use Rattle.std.specs.List.{list_all};
 ghost use Rattle.wf_io.specs.Ends.{CanCount, CanRead};
 ghost use Rattle.wf_run.specs.Run.{answered};
-ghost use Rattle.wf_obstruction_engine.specs.Finding.{Answers, FindsObstruction, IsAnswer, IsWritten, SeeksIn, is_tried};
+ghost use Rattle.wf_tree_text.specs.Seen.{node_seen, nodes_seen};
+ghost use Rattle.wf_obstruction_engine.specs.Finding.{Answers, FindsObstruction, IsAnswer, IsWritten, SeeksIn, is_tried, is_tried_at};
 
 use crate::finding::{Finding, GaveUp, SearchLimit};
 use crate::search::{MODULI, Sought, Stopped, seek};
@@ -11,14 +13,13 @@ use std::alloc::Global;
 use std::io::{Read, Write};
 use wf_finder::Listener;
 use wf_io::{Sink, Source};
-use wf_obstruction::ObstructionFault;
-use wf_obstruction_text::{Obstruction, write_obstruction};
-use wf_run::{Answered, RunFault, hand_out, read_task};
+use wf_run::{Answered, ObstructionFault, RunFault, hand_out, read_task};
 use wf_task::Task;
+use wf_tree_text::{Obstruction, TreeNode, write_obstruction};
 use wf_verify_engine::{judge_obstruction, obstruction_of};
 
-/// Reads a task to the reader's end, and looks for an obstruction of the task: modulo a number if
-/// one is asked for, or else modulo each of [`MODULI`] up to the first that has one. Writes what is
+/// Reads a task to the reader's end, and looks for an obstruction of the task: with balances modulo
+/// a number if one is asked for, or else modulo the first of [`MODULI`] that has one. Writes what is
 /// found, and otherwise nothing.
 ///
 /// What is written is an obstruction of the task. So no function on the views is a decision map,
@@ -71,7 +72,7 @@ fn find_in_task<L: Listener>(
         return Err(RunFault::Obstruction(ObstructionFault::FirstBlock));
     }
     match seek(alloc, task, modulus, listener) {
-        Ok(Sought::Found(obstruction)) => written(alloc, task, modulus, &obstruction),
+        Ok(Sought::Found(found)) => written(alloc, task, modulus, &found),
         Ok(Sought::NotFound(tried)) => Ok((Finding::NotFound(tried), Vec::new(alloc))),
         Err(Stopped::GaveUp(gave_up)) => Ok((Finding::GaveUp(gave_up), Vec::new(alloc))),
         Err(Stopped::OutOfMemory) => Err(RunFault::OutOfMemory),
@@ -88,23 +89,40 @@ fn written(alloc: Global, task: &Task, asked: Option<u32>, found: &Obstruction) 
         Err(fault) => match limit_of(fault) {
             None => Err(RunFault::OutOfMemory),
             Some(limit) => {
-                let modulus = found.modulus;
+                let modulus = None;
                 Ok((Finding::GaveUp(GaveUp { modulus, limit }), Vec::new(alloc)))
             }
         },
     }
 }
 
-/// Accepts a text that is an obstruction of the task, modulo a number that is to be tried. The text
+/// Accepts a text that is an obstruction of the task, modulo numbers that are to be tried. The text
 /// is read and judged as `verify` does it.
 fn accept(alloc: Global, task: &Task, asked: Option<u32>, text: &[u8]) -> Result<(), RunFault>
     ensures { OnOk result (IsWritten asked task.now text.now) }
 {
     let obstruction = obstruction_of(alloc, text)?;
-    if !is_tried(asked, obstruction.modulus) {
-        return Err(RunFault::Obstruction(ObstructionFault::SumRange));
+    if !are_tried(asked, &obstruction.nodes) {
+        return Err(RunFault::Obstruction(ObstructionFault::FirstBlock));
     }
     judge_obstruction(alloc, task, &obstruction)
+}
+
+/// Whether each balance is modulo a number that is to be tried.
+fn are_tried(asked: Option<u32>, nodes: &[TreeNode]) -> bool
+    ensures { result ≡ list_all (is_tried_at asked) (nodes_seen nodes.now) }
+{
+    nodes.iter().all(|node| is_tried_at(asked, node))
+}
+
+/// Whether a node is no balance, or is one modulo a number that is to be tried.
+fn is_tried_at(asked: Option<u32>, node: &TreeNode) -> bool
+    ensures { result ≡ is_tried_at asked (node_seen node.now) }
+{
+    match node {
+        TreeNode::Balance(balance) => is_tried(asked, balance.modulus),
+        _ => true,
+    }
 }
 
 /// Whether a modulus is the one that is asked for, or one of [`MODULI`] if none is.
@@ -122,7 +140,6 @@ fn limit_of(fault: RunFault) -> Option<SearchLimit> {
     match fault {
         RunFault::OutOfMemory => None,
         RunFault::TooLong => Some(SearchLimit::Length),
-        RunFault::Obstruction(ObstructionFault::TooManyTerms) => Some(SearchLimit::Terms),
         _ => Some(SearchLimit::Internal),
     }
 }

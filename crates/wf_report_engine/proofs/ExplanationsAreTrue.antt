@@ -6,7 +6,7 @@ use Rattle.wf_io.specs.Seen.{Reading, Writing}
 use Rattle.wf_io.specs.Texts.{Gave, ReadsText, Wrote}
 use Rattle.wf_io.specs.declared.source.ReadFault.{ReadFault}
 use Rattle.wf_check.specs.Truth.{HoldsOf}
-use Rattle.wf_obstruction_text.specs.Text.{Obstruction}
+use Rattle.wf_tree_text.specs.Text.{Obstruction}
 use Rattle.wf_run.specs.declared.fault.RunFault.{RunFault}
 use Rattle.wf_run.specs.Run.{Hands, IsTaskOf, Judged, Next, Reads}
 use Rattle.wf_run.specs.Texts.{text_of_report}

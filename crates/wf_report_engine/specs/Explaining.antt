@@ -11,12 +11,12 @@ use Rattle.wf_io.specs.Seen.{Reading, Writing}
 use Rattle.wf_io.specs.Texts.{Wrote}
 use Rattle.wf_check.specs.Truth.{HoldsOf}
 use Rattle.wf_argument.specs.Text.{argument_text}
-use Rattle.wf_obstruction_text.specs.Text.{Obstruction, begins_as_obstruction}
-use Rattle.wf_obstruction_words.specs.Words as obstruction
+use Rattle.wf_tree_text.specs.Text.{Obstruction, begins_as_obstruction}
+use Rattle.wf_tree_words.specs.Words as obstruction
 use Rattle.wf_run.specs.Run.{Next, Ran, Reads}
 use Rattle.wf_run.specs.Sources.{AsksPair, NextReads}
 use Rattle.wf_verify_engine.specs.Verify.{IsReportOf, IsVerified}
-use Rattle.wf_verify_engine.specs.Certificates.{IsObstructionOf, IsRefusalOf, IsSound}
+use Rattle.wf_verify_engine.specs.Obstructions.{IsObstructionOf, IsRefusalOf, IsSound}
 use Rattle.wf_run.specs.Given.{GaveTask}
 use Rattle.wf_verify_engine.specs.Headline.{GaveTruth}
 use Rattle.wf_run.specs.Laws.{IsChecked}
@@ -42,7 +42,7 @@ ExplainsReport t text result = (r : Result Report RunFault) × IsReportOf text r
 
 -- an obstruction that is accepted is told; or it is refused
 abbrev pub TellsObstruction : Task → Obstruction → Result (Unit {0} × List ℕ) RunFault → Type 0
-TellsObstruction t o (Ok answer) = IsSound t o × (answer.1 ≡ obstruction.argument_text t o)
+TellsObstruction t o (Ok answer) = IsSound t o × (answer.1 ≡ obstruction.argument_text t o.nodes)
 TellsObstruction t o (Err e) = IsRefusalOf t o e
 
 -- the text is read as an obstruction, which is judged and told
@@ -83,7 +83,7 @@ ToldReport task task' reports reports' sink sink' =
 abbrev pub ToldObstruction : Reading → Reading → Writing → Writing → Type 0
 ToldObstruction task task' sink sink' =
     (t : Task) × (o : Obstruction) × GaveTask task task' t × ((r : ℕ) → HasNoDecisionMap t r)
-    × Wrote sink sink' (obstruction.argument_text t o)
+    × Wrote sink sink' (obstruction.argument_text t o.nodes)
 
 -- an explanation that ends well told one or the other
 abbrev pub ExplanationsAreTrue : Type 0

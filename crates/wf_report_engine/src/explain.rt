@@ -1,11 +1,13 @@
 //! Telling a certificate in words: what a map decides, why there is no map, or why there is none
 //! after any number of rounds.
 
-ghost use Rattle.std.specs.Prelude.{◌≡◌, IfOk};
+ghost use Rattle.std.specs.Prelude.{◌≡◌, ◌≤◌, IfOk, length};
 ghost use Rattle.std.specs.Thread.{IsSync};
+ghost use Rattle.wf_model.specs.Limits.{most_bytes};
 ghost use Rattle.wf_complex.specs.Protocol.{IsProtocol};
 ghost use Rattle.wf_report.specs.Reports.{AreNumbered, body_length, body_of, report_seen};
-ghost use Rattle.wf_obstruction_text.specs.Seen.{obstruction_seen};
+ghost use Rattle.wf_tree_text.specs.Seen.{nodes_seen, obstruction_seen};
+ghost use Rattle.wf_tree_text.specs.Text.{lines_of_nodes};
 ghost use Rattle.wf_run.specs.Run.{Reads, answered};
 ghost use Rattle.wf_verify_engine.specs.Verify.{IsVerified};
 ghost use Rattle.wf_report_engine.specs.Explaining.{AreExplained, ExplainsObstruction, ExplainsReport, ExplainsText, TellsObstruction, body_explained};
@@ -17,11 +19,11 @@ use std::thread::Threads;
 use wf_argument::write_argument;
 use wf_complex::Protocol;
 use wf_io::{Source, read_all};
-use wf_obstruction_text::{Obstruction, is_obstruction_text};
-use wf_obstruction_words::write_obstruction_argument;
 use wf_report::{Body, Report};
 use wf_run::{Answered, PairAnswer, write_points};
 use wf_task::{LONGEST, Task};
+use wf_tree_text::{Obstruction, is_obstruction_text};
+use wf_tree_words::write_obstruction_argument;
 use wf_verify_engine::{check_report, judge_obstruction, obstruction_of, report_of};
 
 /// A certificate in words, which is checked as
@@ -71,10 +73,11 @@ fn explain_obstruction(alloc: Global, task: &Task, text: &[u8]) -> Answered<()>
 
 /// An obstruction in words, if it is one of the task.
 fn tell_obstruction(alloc: Global, task: &Task, obstruction: &Obstruction) -> Answered<()>
+    requires few { length (lines_of_nodes (nodes_seen obstruction.now.nodes.items)) ≤ most_bytes }
     ensures { TellsObstruction task.now (obstruction_seen obstruction.now) (answered result) }
 {
     judge_obstruction(alloc, task, obstruction)?;
-    Ok(((), write_obstruction_argument(alloc, task, obstruction)?))
+    Ok(((), write_obstruction_argument(alloc, task, &obstruction.nodes)?))
 }
 
 /// The report of a text in words, if it is about the task.

@@ -17,8 +17,10 @@ use Rattle.wf_rup.specs.declared.proof.ProofFault.{ProofFault}
 use Rattle.wf_rup.specs.declared.proof.ProofFault.TheVariants as proof
 use Rattle.wf_lrat.specs.declared.proof.HintFault.{HintFault}
 use Rattle.wf_lrat.specs.declared.proof.HintFault.TheVariants as hints
-use Rattle.wf_obstruction.specs.declared.fault.ObstructionFault.{ObstructionFault}
-use Rattle.wf_obstruction.specs.declared.fault.ObstructionFault.TheVariants as obstruction
+use Rattle.wf_run.specs.declared.obstruction.CheckerLimit.{CheckerLimit}
+use Rattle.wf_run.specs.declared.obstruction.CheckerLimit.TheVariants as limit
+use Rattle.wf_run.specs.declared.obstruction.ObstructionFault.{ObstructionFault}
+use Rattle.wf_run.specs.declared.obstruction.ObstructionFault.TheVariants as obstruction
 use Rattle.wf_run.specs.declared.fault.PartFault.{PartFault}
 use Rattle.wf_run.specs.declared.fault.PartFault.TheVariants as part
 use Rattle.wf_run.specs.declared.fault.Printed.{Printed}
@@ -86,19 +88,31 @@ hints_text (hints.NoContradiction line) = codes "41 NoContradiction " ++ decimal
 hints_text hints.Binary = codes "42 Binary: ask the solver for text by --no-binary"
 hints_text hints.OutOfMemory = task_text.fault_text task.OutOfMemory
 
--- what is printed of weighted tuples that are no obstruction
+-- what is printed of a limit of the checker of obstructions
+abbrev pub limit_text : CheckerLimit → List ℕ
+limit_text limit.Levels = codes "levels"
+limit_text limit.Nodes = codes "nodes"
+limit_text limit.Names = codes "names"
+limit_text limit.Tuples = codes "tuples"
+
+-- what is printed of nodes that are no obstruction
 abbrev pub obstruction_text : ObstructionFault → List ℕ
 obstruction_text obstruction.FirstBlock = codes "50 FirstBlock"
-obstruction_text obstruction.SumRange = codes "51 SumRange"
+obstruction_text (obstruction.SumRange line) = codes "51 SumRange " ++ decimal line
 obstruction_text (obstruction.NoSimplex line) = codes "52 NoSimplex " ++ decimal line
-obstruction_text (obstruction.WeightRange line) = codes "53 WeightRange " ++ decimal line
-obstruction_text (obstruction.TupleLength line) = codes "54 TupleLength " ++ decimal line
-obstruction_text (obstruction.NoSuchValue line) = codes "55 NoSuchValue " ++ decimal line
-obstruction_text (obstruction.Allowed line) = codes "56 Allowed " ++ decimal line
-obstruction_text obstruction.TooManyTerms = codes "57 TooManyTerms"
-obstruction_text obstruction.OtherSum = codes "58 OtherSum"
-obstruction_text (obstruction.NotCancelled simplex) = codes "59 NotCancelled " ++ decimal simplex
-obstruction_text obstruction.OutOfMemory = task_text.fault_text task.OutOfMemory
+obstruction_text (obstruction.NoPlace line) = codes "53 NoPlace " ++ decimal line
+obstruction_text (obstruction.OthersLength line) = codes "54 OthersLength " ++ decimal line
+obstruction_text (obstruction.WeightRange line) = codes "55 WeightRange " ++ decimal line
+obstruction_text (obstruction.OtherSum line) = codes "56 OtherSum " ++ decimal line
+obstruction_text (obstruction.NotBalanced line simplex tuple) =
+    codes "57 NotBalanced " ++ (decimal line ++ (codes " " ++ (decimal simplex ++ (codes " " ++ decimal tuple))))
+obstruction_text (obstruction.NoTree line) = codes "58 NoTree " ++ decimal line
+obstruction_text (obstruction.Behind line) = codes "59 Behind " ++ decimal line
+obstruction_text (obstruction.Symmetric line) = codes "65 Symmetric " ++ decimal line
+obstruction_text (obstruction.OneParticipant line) = codes "66 OneParticipant " ++ decimal line
+obstruction_text (obstruction.NoSheet line) = codes "67 NoSheet " ++ decimal line
+obstruction_text (obstruction.NotFlat line tuple) = codes "68 NotFlat " ++ (decimal line ++ (codes " " ++ decimal tuple))
+obstruction_text (obstruction.TooLarge line above) = codes "69 TooLarge " ++ (decimal line ++ (codes " " ++ limit_text above))
 
 -- what is printed of a part about a branch that is not accepted
 abbrev pub part_fault_text : PartFault → List ℕ
@@ -132,5 +146,6 @@ abbrev pub printed_text : Printed → List ℕ
 printed_text (printed.Task e) = task_text.fault_text e
 printed_text (printed.Build e) = build_text.fault_text e
 printed_text (printed.Cert e) = report_faults.fault_text e
+printed_text (printed.Obstruction e) = obstruction_text e
 printed_text (printed.InPart branch e) = codes "48 InPart " ++ (decimal branch ++ (codes ": " ++ part_fault_text e))
 printed_text (printed.Words name number) = report_faults.printed name.now number

@@ -1,16 +1,16 @@
 //! Why a run is refused.
 
 ghost use Rattle.std.specs.Prelude.{◌≡◌, Some};
-ghost use Rattle.wf_run.specs.Faults.{of_read, of_task, of_build, of_report_fault, of_model, of_proof, of_hints, fault_text, hints_text, model_text, obstruction_text, part_fault_text, printed_text, proof_text};
+ghost use Rattle.wf_run.specs.Faults.{of_read, of_task, of_build, of_report_fault, of_model, of_proof, of_hints, fault_text, hints_text, model_text, part_fault_text, printed_text, proof_text};
 ghost use Rattle.wf_run.specs.declared.fault.RunFault.TheVariants.{OutOfMemory, Write};
 
+use crate::obstruction::ObstructionFault;
 use std::alloc::AllocError;
 use std::fmt;
 use wf_cnf::ModelFault;
 use wf_complex::BuildFault;
 use wf_io::{ReadFault, WriteFault};
 use wf_lrat::HintFault;
-use wf_obstruction::ObstructionFault;
 use wf_report::CertFault;
 use wf_rup::ProofFault;
 use wf_task::TaskFault;
@@ -63,8 +63,7 @@ pub enum RunFault {
         /// How many branches there are.
         branches: u32,
     },
-    /// 50 to 59: the weighted tuples of an obstruction are none of the task's. A tuple is named by
-    /// its line.
+    /// 50 to 59, 65 to 69: the text lists no obstruction of the task.
     Obstruction(ObstructionFault),
     /// 15: memory ran out.
     OutOfMemory,
@@ -99,6 +98,7 @@ enum Printed {
     Task(TaskFault),
     Build(BuildFault),
     Cert(CertFault),
+    Obstruction(ObstructionFault),
     InPart(u32, PartFault),
     Words(&'static str, Option<u64>),
 }
@@ -116,7 +116,7 @@ impl RunFault {
             RunFault::Model(fault) => printed_model(fault),
             RunFault::Proof(fault) => printed_proof(fault),
             RunFault::Hints(fault) => printed_hints(fault),
-            RunFault::Obstruction(fault) => printed_obstruction(fault),
+            RunFault::Obstruction(fault) => Printed::Obstruction(fault),
             RunFault::OtherRounds => Printed::Words("36 OtherRounds", None),
             RunFault::NoMap => Printed::Words("43 NoMap", None),
             RunFault::NoBranch { branches } => Printed::Words(
@@ -189,27 +189,6 @@ fn printed_hints(fault: HintFault) -> Printed
     }
 }
 
-/// What is printed of weighted tuples that are no obstruction.
-fn printed_obstruction(fault: ObstructionFault) -> Printed
-    ensures { printed_text result ≡ obstruction_text fault }
-{
-    match fault {
-        ObstructionFault::FirstBlock => Printed::Words("50 FirstBlock", None),
-        ObstructionFault::SumRange => Printed::Words("51 SumRange", None),
-        ObstructionFault::NoSimplex { tuple } => Printed::Words("52 NoSimplex", Some(tuple)),
-        ObstructionFault::WeightRange { tuple } => Printed::Words("53 WeightRange", Some(tuple)),
-        ObstructionFault::TupleLength { tuple } => Printed::Words("54 TupleLength", Some(tuple)),
-        ObstructionFault::NoSuchValue { tuple } => Printed::Words("55 NoSuchValue", Some(tuple)),
-        ObstructionFault::Allowed { tuple } => Printed::Words("56 Allowed", Some(tuple)),
-        ObstructionFault::TooManyTerms => Printed::Words("57 TooManyTerms", None),
-        ObstructionFault::OtherSum => Printed::Words("58 OtherSum", None),
-        ObstructionFault::NotCancelled { simplex } => {
-            Printed::Words("59 NotCancelled", Some(simplex))
-        }
-        ObstructionFault::OutOfMemory => Printed::Task(TaskFault::OutOfMemory),
-    }
-}
-
 impl fmt::Display for RunFault {
     ghost output = { λ f. Some (fault_text f) };
 
@@ -218,6 +197,7 @@ impl fmt::Display for RunFault {
             Printed::Task(fault) => write!(f, "{fault}"),
             Printed::Build(fault) => write!(f, "{fault}"),
             Printed::Cert(fault) => write!(f, "{fault}"),
+            Printed::Obstruction(fault) => write!(f, "{fault}"),
             Printed::InPart(branch, fault) => write!(f, "48 InPart {branch}: {fault}"),
             Printed::Words(name, Some(number)) => write!(f, "{name} {number}"),
             Printed::Words(name, None) => write!(f, "{name}"),

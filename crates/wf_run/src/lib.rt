@@ -2,7 +2,7 @@
 //! search nor check.
 //!
 //! - [`RunFault`]: why a run is refused, with its number and its name; [`PartFault`]: why one part
-//!   among others is.
+//!   among others is; [`ObstructionFault`]: why an obstruction is.
 //! - [`read_task`], [`hand_out`]: the first and the last step of a run.
 //! - [`run_over_task`]: reads a task, and writes the text of a [`TaskAnswer`] about it;
 //!   [`run_in_pieces`]: writes a [`LongText`] about it, which may be longer than memory.
@@ -23,6 +23,7 @@ mod cnf;
 mod fault;
 mod frames;
 mod laws;
+mod obstruction;
 mod pairs;
 mod points;
 mod preset;
@@ -33,6 +34,7 @@ pub use cnf::QuestionText;
 pub use fault::{PartFault, RunFault};
 pub use frames::{LongText, TaskAnswer, run_in_pieces, run_over_task};
 pub use laws::{listing_is_counted, presets_are_counted};
+pub use obstruction::{CheckerLimit, ObstructionFault};
 pub use pairs::{PairAnswer, SecondText, TextSubject, run_over_both, run_over_pair};
 pub use points::{PointsInWords, write_points};
 pub use preset::run_preset;

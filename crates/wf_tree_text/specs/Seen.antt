@@ -9,7 +9,7 @@ use Rattle.wf_cover.specs.Faults.{moves_seen}
 use Rattle.wf_tree_text.specs.Text.{Obstruction, obstruction_of}
 use Rattle.wf_tree_text.specs.declared.obstruction.TreeNode as code_node
 use Rattle.wf_tree_text.specs.declared.obstruction.TreeNode.TheVariants as node
-use Rattle.wf_tree_text.specs.declared.obstruction.TreeText as code
+use Rattle.wf_tree_text.specs.declared.obstruction.Obstruction as code
 
 abbrev pub node_seen : code_node.TreeNode → Node
 node_seen (node.Case simplex) = case_node simplex
@@ -20,11 +20,11 @@ node_seen (node.Balance b) = balance_node b.modulus b.sum (multipliers_seen b.mu
 abbrev pub nodes_seen : List code_node.TreeNode → List Node
 nodes_seen nodes = map node_seen nodes
 
-abbrev pub obstruction_seen : code.TreeText → Obstruction
+abbrev pub obstruction_seen : code.Obstruction → Obstruction
 obstruction_seen o = record { processes = o.processes; simplices = o.simplices; nodes = nodes_seen o.nodes.items }
 
 -- a text within the limit is read as the definitions say; a longer one is too long, whatever it is
-abbrev pub IsRead : Result code.TreeText CertFault → List ℕ → Type 0
+abbrev pub IsRead : Result code.Obstruction CertFault → List ℕ → Type 0
 IsRead (Ok o) text = (length text ≤ most_bytes) × (obstruction_of text ≡ Ok (obstruction_seen o))
 IsRead (Err TooLong) text = most_bytes < length text
 IsRead (Err (Syntax k)) text = (length text ≤ most_bytes) × (obstruction_of text ≡ Err k)

@@ -5,7 +5,7 @@ use wf_cover::Covering;
 
 /// What the text of an obstruction lists. A checker says whether it is one.
 #[derive(Drop, Debug)]
-pub struct TreeText {
+pub struct Obstruction {
     /// How many processes the task has.
     pub processes: u32,
     /// How many simplices its input complex has.

@@ -11,7 +11,7 @@ use crate::front::{read_first, read_number};
 use crate::line::line_of_numbers;
 use crate::nodes::add_line;
 use crate::numbers::read_numbers;
-use crate::obstruction::{TreeNode, TreeText};
+use crate::obstruction::{Obstruction, TreeNode};
 use std::alloc::{AllocError, Global};
 use wf_report::{CertFault, cut};
 use wf_task::LONGEST;
@@ -23,7 +23,7 @@ pub(crate) const FIRST_BEHIND: u32 = 4;
 /// it is looked at. Of any other text that is none of an obstruction, `Syntax` says the number of
 /// the first bad line, from 1 on. `OutOfMemory` says nothing of the text. The nodes have few enough
 /// lines for [`crate::line_of`].
-pub fn read_obstruction(alloc: Global, text: &[u8]) -> Result<TreeText, CertFault>
+pub fn read_obstruction(alloc: Global, text: &[u8]) -> Result<Obstruction, CertFault>
     ensures read { IsRead result text.now }
     ensures few { IfOk result (λ o. length (lines_of_nodes (nodes_seen o.nodes.items)) ≤ LONGEST) }
 {
@@ -34,7 +34,7 @@ pub fn read_obstruction(alloc: Global, text: &[u8]) -> Result<TreeText, CertFaul
     let (processes, rest) = read_number(rest, 2, b"processes")?;
     let (simplices, rest) = read_number(rest, 3, b"simplices")?;
     let nodes = read_nodes(alloc, rest)?;
-    Ok(TreeText {
+    Ok(Obstruction {
         processes,
         simplices,
         nodes,

@@ -8,7 +8,7 @@ ghost use Rattle.wf_tree_text.specs.Seen.{node_seen, nodes_seen, obstruction_see
 ghost use Rattle.wf_tree_text.specs.Text.{balance_at, cover_at, line_text, lines_of_node, lines_of_nodes, move_at, multiplier_at, obstruction_text};
 
 use crate::front::FIRST_LINE;
-use crate::obstruction::{TreeNode, TreeText};
+use crate::obstruction::{Obstruction, TreeNode};
 use std::alloc::{AllocError, Global};
 use std::fmt::Write;
 use wf_balance::{Balance, Multiplier};
@@ -18,7 +18,7 @@ use wf_lines::{put_number, put_words};
 /// The text of an obstruction: three lines in front, the nodes with their moves and multipliers,
 /// and `end`. Every line ends in one line feed, and numbers are decimal. Refused if memory runs
 /// out, and for nothing else.
-pub fn write_obstruction(alloc: Global, obstruction: &TreeText) -> Result<Vec<u8>, AllocError>
+pub fn write_obstruction(alloc: Global, obstruction: &Obstruction) -> Result<Vec<u8>, AllocError>
     ensures text { IfOk result (λ text.
         text.items ≡ obstruction_text (obstruction_seen obstruction.now)) }
 {

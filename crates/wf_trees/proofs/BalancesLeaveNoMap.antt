@@ -11,12 +11,12 @@ use Rattle.wf_model.specs.View.{View}
 use Rattle.wf_model.specs.Task.{Rule, Task, Tuple, first_block, inputs}
 use Rattle.wf_model.specs.DecisionMap.{HasNoDecisionMap}
 use Rattle.wf_model.proofs.Headline.{each_append, each_map}
-use Rattle.wf_counting.specs.Obstruction.{rule_at, same_numbers}
+use Rattle.wf_counting.specs.Rules.{rule_at, same_numbers}
 use Rattle.wf_counting.specs.Signs.{same_sign, total}
-use Rattle.wf_counting.proofs.CancelledFaces.{listed_rule}
-use Rattle.wf_counting.proofs.DecidedFamilies.{long_between}
+use Rattle.wf_counting.proofs.Faces.{listed_rule}
+use Rattle.wf_counting.proofs.LastViews.{long_between}
 use Rattle.wf_counting.proofs.Faces.{on_each_face}
-use Rattle.wf_counting.proofs.Groups.{taken_away}
+use Rattle.wf_counting.proofs.Remainders.{taken_away}
 use Rattle.wf_counting.proofs.Lists.{Between, contained, each}
 use Rattle.wf_counting.proofs.Sums.{total_append}
 use Rattle.wf_trees.proofs.Members.{Has, any_has, contained_has, contains, from_each, map_has, of_has}

@@ -10,8 +10,8 @@ use Rattle.wf_model.specs.View.{View, base, base_views, round}
 use Rattle.wf_model.specs.Task.{Rule, Task, Tuple, first_block}
 use Rattle.wf_model.specs.Points.{class}
 use Rattle.wf_model.specs.DecisionMap.{HasNoDecisionMap, IsDecisionMap}
-use Rattle.wf_counting.specs.Obstruction.{same_numbers}
-use Rattle.wf_counting.proofs.Groups as Groups
+use Rattle.wf_counting.specs.Rules.{same_numbers}
+use Rattle.wf_counting.proofs.Words.{numbers_same}
 use Rattle.wf_trees.specs.Alike.{are_alike}
 use Rattle.wf_trees.specs.Cases.{components, in_case, is_step, tuples_in_case}
 use Rattle.wf_trees.specs.Stars.{DifferAtOne, runs, view_after}
@@ -59,7 +59,7 @@ adjacent_turned n a b h =
     any_has (λ p. agree_elsewhere n p b a) found.0 (below n) found.1 (agree_turned n found.0 a b found.2)
 
 same_turned : (a b : Tuple) → same_numbers a b ≡ true → same_numbers b a ≡ true
-same_turned a b h = let e = same_tuples a b h in subst (λ c. same_numbers c a ≡ true) e (Groups.same_itself a)
+same_turned a b h = let e = same_tuples a b h in subst (λ c. same_numbers c a ≡ true) e (numbers_same a)
 
 step_turned : (n : ℕ) (a b : Tuple) → is_step n a b ≡ true → is_step n b a ≡ true
 step_turned n a b h = by (n == 1) h
@@ -110,7 +110,7 @@ module _ (t : Task) (of : Rule) (r : ℕ) (fit : HasInputComplex t) (all_words :
   step us ws us_run ws_run (p, low, others) = by (n == 1) refl
     where
       by : (one : Bool) → (n == 1) ≡ one → cond one (same_numbers (tuple us) (tuple ws)) (are_adjacent n (tuple us) (tuple ws)) ≡ true
-      by true one = subst (λ y. same_numbers (tuple us) y ≡ true) (same_alone (eqb-true n 1 one) us ws us_run ws_run) (Groups.same_itself (tuple us))
+      by true one = subst (λ y. same_numbers (tuple us) y ≡ true) (same_alone (eqb-true n 1 one) us ws us_run ws_run) (numbers_same (tuple us))
       by false more =
           any_has (λ q. agree_elsewhere n q (tuple us) (tuple ws)) p (below n) (below_has n p low)
           (elsewhere_agree n p (tuple us) (tuple ws) (λ i l other. value_decided us us_run i l ∙ ap (λ v. m (class t v)) (others i l other) ∙ sym (value_decided ws ws_run i l)))

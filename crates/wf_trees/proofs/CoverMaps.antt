@@ -12,11 +12,10 @@ use Rattle.wf_model.specs.Task.{Rule, Task, Tuple}
 use Rattle.wf_model.specs.DecisionMap.{HasNoDecisionMap, IsDecisionMap}
 use Rattle.wf_model.proofs.Basics.{by_place}
 use Rattle.wf_counting.specs.Signs.{keep}
-use Rattle.wf_counting.specs.Obstruction.{same_numbers}
-use Rattle.wf_counting.proofs.Groups as Groups
+use Rattle.wf_counting.specs.Rules.{same_numbers}
 use Rattle.wf_counting.proofs.Lists.{each_passes, map_same_on}
 use Rattle.wf_counting.proofs.Sums.{keep_map}
-use Rattle.wf_counting.proofs.Words.{view_of}
+use Rattle.wf_counting.proofs.Words.{numbers_same, view_of}
 use Rattle.wf_trees.specs.Covers.{Covering, IsCovering, corner_vertex, covered, is_corner, is_flat_at, lifted, lifts, lifts_on_corner, lifts_on_face, moved, sheets_of, tuples_covered}
 use Rattle.wf_trees.specs.Stars.{runs}
 use Rattle.wf_trees.specs.Tuples.{choices_of, is_kept, is_part, mask_of, value_at}
@@ -271,7 +270,7 @@ module _ (t : Task) (c : Covering) (r : ℕ) (set : Setting t c.rule) (is : IsCo
       let on_sheets : map copied (fold round (base_views q.input) ws) ≡ keep mask (lifted c (tuple us) x) =
       ap (map copied) more.2 ∙ sym (keep_map copied mask (views us)) ∙ ap (keep mask) (on_simplex us more.1) in
       let pass : is_kept q mask (tuple us) ≡ true =
-      any_has (same_numbers (keep mask (tuple us))) (keep mask (tuple us)) q.tuples (subst (λ y. Has y q.tuples) before (allowed q q_there ws run)) (Groups.same_itself (keep mask (tuple us))) in
+      any_has (same_numbers (keep mask (tuple us))) (keep mask (tuple us)) q.tuples (subst (λ y. Has y q.tuples) before (allowed q q_there ws run)) (numbers_same (keep mask (tuple us))) in
       let kept = filter (is_kept q mask) c.rule.tuples in
       subst (λ y. Has y (lifts_on_face c q)) (sym on_sheets)
       (map_has (keep mask) (lifted c (tuple us) x) (flat_map (lifts c) kept)

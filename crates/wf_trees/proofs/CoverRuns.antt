@@ -6,7 +6,7 @@ use Rattle.std.proofs.lemmas.Bool.{cases_eq, cases_order, eq-eqb, le-ltb, lt-ltb
 use Rattle.wf_model.specs.Lists.{below, has}
 use Rattle.wf_model.specs.Word.{Word, words}
 use Rattle.wf_model.specs.View.{View, process_of}
-use Rattle.wf_counting.specs.Obstruction.{same_numbers}
+use Rattle.wf_counting.specs.Rules.{same_numbers}
 use Rattle.wf_counting.proofs.Words.{view_of}
 use Rattle.wf_trees.proofs.Members.{AreOf, Has, of_has}
 use Rattle.wf_trees.proofs.WordTests.{has_number, headed, row, seen_at}

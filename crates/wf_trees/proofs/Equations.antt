@@ -9,7 +9,7 @@ use Rattle.wf_model.specs.Word.{Word, words}
 use Rattle.wf_model.specs.View.{View, base, base_views, round}
 use Rattle.wf_model.specs.Points.{class}
 use Rattle.wf_model.specs.Task.{Task, Tuple}
-use Rattle.wf_counting.specs.Obstruction.{same_numbers}
+use Rattle.wf_counting.specs.Rules.{same_numbers}
 use Rattle.wf_counting.specs.Signs.{is_even, keep, same_sign}
 use Rattle.wf_counting.proofs.Rounds.{marginal, nobody, over}
 use Rattle.wf_counting.proofs.Sums.{keep_map, total_same}

@@ -11,7 +11,7 @@ use Rattle.wf_model.proofs.Basics.{by_place, length-below}
 use Rattle.wf_model.proofs.Headline.{each_map}
 use Rattle.wf_model.proofs.WellFormed.{words_long}
 use Rattle.wf_counting.specs.Signs.{block_count, keep}
-use Rattle.wf_counting.specs.Obstruction.{same_numbers}
+use Rattle.wf_counting.specs.Rules.{same_numbers}
 use Rattle.wf_counting.proofs.Lists.{each, each_passes}
 use Rattle.wf_counting.proofs.Rounds.{length_keep, round_long}
 use Rattle.wf_counting.proofs.Sums.{keep_map}

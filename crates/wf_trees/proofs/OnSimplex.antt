@@ -12,7 +12,7 @@ use Rattle.wf_model.specs.Task.{Rule, Task, first_block}
 use Rattle.wf_model.specs.DecisionMap.{IsDecisionMap}
 use Rattle.wf_model.proofs.WellFormed.{last_processes, words_long}
 use Rattle.wf_counting.specs.Signs.{keep}
-use Rattle.wf_counting.proofs.DecidedFamilies.{last_long}
+use Rattle.wf_counting.proofs.LastViews.{last_long}
 use Rattle.wf_counting.proofs.Lists.{each}
 use Rattle.wf_counting.proofs.Sums.{keep_map}
 use Rattle.wf_trees.specs.Stars.{runs}

@@ -7,7 +7,7 @@ use Rattle.wf_model.specs.Lists.{below, has}
 use Rattle.wf_model.specs.Simplex.{parts_of}
 use Rattle.wf_model.specs.Word.{Word, words}
 use Rattle.wf_model.proofs.Headline.{each_append, each_flat, each_map}
-use Rattle.wf_counting.specs.Obstruction.{same_numbers}
+use Rattle.wf_counting.specs.Rules.{same_numbers}
 use Rattle.wf_counting.proofs.Lists.{each_passes, map_same_on}
 use Rattle.wf_counting.proofs.Words.{numbers_equal}
 use Rattle.wf_trees.proofs.Members.{Has, from_each, has_any, of_has}

@@ -3,8 +3,8 @@ use Rattle.std.proofs.Common.{◌≡◌, ℕ, ◌==◌, not, Bool, true, false, 
 use Rattle.std.specs.List.{AllByRecursion, list_any}
 use Rattle.std.proofs.lemmas.Bool.{and_parts, cases_Bool, eqb-true, false≢true}
 use Rattle.wf_model.specs.Task.{Tuple}
-use Rattle.wf_counting.specs.Obstruction.{same_numbers}
-use Rattle.wf_counting.proofs.Groups as Groups
+use Rattle.wf_counting.specs.Rules.{same_numbers}
+use Rattle.wf_counting.proofs.Words.{numbers_same}
 use Rattle.wf_trees.specs.Parts.{parts}
 use Rattle.wf_trees.specs.Splits.{name_beside}
 use Rattle.wf_trees.specs.Tuples.{has_tuple}
@@ -49,7 +49,7 @@ same_tuples (x ∷ xs) (y ∷ ys) h =
     λ i. first i ∷ rest i
 
 pub there_has : (tuples : List Tuple) (a : Tuple) → Has a tuples → has_tuple tuples a ≡ true
-there_has tuples a there = any_has (same_numbers a) a tuples there (Groups.same_itself a)
+there_has tuples a there = any_has (same_numbers a) a tuples there (numbers_same a)
 
 pub has_there : (tuples : List Tuple) (a : Tuple) → has_tuple tuples a ≡ true → Has a tuples
 has_there tuples a h = let found = has_any (same_numbers a) tuples h in subst (λ b. Has b tuples) (sym (same_tuples a found.0 found.2)) found.1

@@ -10,7 +10,7 @@ use Rattle.wf_model.specs.View.{View}
 use Rattle.wf_model.specs.Task.{Rule, Task, Tuple, first_block}
 use Rattle.wf_model.specs.DecisionMap.{IsDecisionMap}
 use Rattle.wf_counting.specs.Signs.{is_even, same_sign, total}
-use Rattle.wf_counting.proofs.Groups.{both_same}
+use Rattle.wf_counting.proofs.Remainders.{both_same}
 use Rattle.wf_counting.proofs.Lists.{Between}
 use Rattle.wf_counting.proofs.Sums.{total_add, total_none, total_same}
 use Rattle.wf_trees.proofs.Members.{Has, contains, from_each}

@@ -6,7 +6,7 @@ use Rattle.wf_model.specs.Lists.{below, has, lists_of}
 use Rattle.wf_model.specs.Simplex.{parts_of}
 use Rattle.wf_model.specs.Word.{Word, words, is_word, is_allowed}
 use Rattle.wf_counting.specs.Signs.{block_count}
-use Rattle.wf_counting.specs.Obstruction.{same_numbers}
+use Rattle.wf_counting.specs.Rules.{same_numbers}
 use Rattle.wf_counting.proofs.Lists.{each, each_passes}
 use Rattle.wf_counting.proofs.Words.{numbers_equal, rows}
 use Rattle.wf_trees.proofs.Members.{Has, any_has, filter_has, has_any, has_left, has_right, lists_have, map_has, of_has}

@@ -6,7 +6,7 @@
 -- decides one value.
 use Rattle.std.specs.Prelude.{◌==◌, ℕ, Bool, List, filter, length, if◌then◌else◌}
 use Rattle.wf_model.specs.Task.{Rule, Task, Tuple}
-use Rattle.wf_counting.specs.Obstruction.{same_numbers}
+use Rattle.wf_counting.specs.Rules.{same_numbers}
 use Rattle.wf_trees.specs.Alike.{are_alike}
 use Rattle.wf_trees.specs.Parts.{parts}
 use Rattle.wf_trees.specs.Refined.{allowing}

@@ -3,8 +3,8 @@ use Rattle.std.specs.Prelude.{◌≡◌, ◌+◌, ◌*◌, ◌%◌, ℕ, Bool, t
 use Rattle.std.specs.List.{list_all}
 use Rattle.wf_model.specs.Task.{Task, Tuple}
 use Rattle.wf_model.specs.ExampleTasks.{consensus, renaming_2_2}
-use Rattle.wf_counting.specs.Obstruction.{rule_at}
-use Rattle.wf_counting.specs.KnownResults.{symmetry_breaking}
+use Rattle.wf_counting.specs.Rules.{rule_at}
+use Rattle.wf_trees.specs.KnownResults.{symmetry_breaking}
 use Rattle.wf_trees.specs.Alike.{are_alike}
 use Rattle.wf_trees.specs.Balance.{Multiplier, counts_nothing, weight_of_vertices, weight_with, weight_without}
 use Rattle.wf_trees.specs.Cases.{components, in_case}

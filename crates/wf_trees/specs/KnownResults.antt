@@ -1,18 +1,40 @@
 -- What is known of the tasks of the field: consensus, set agreement, weak symmetry breaking and
 -- renaming with too few names have no decision map, whatever the number of rounds, by one balance
 -- each. The hourglass, majority consensus and loops on a punctured torus have none by trees.
-use Rattle.std.specs.Prelude.{ℕ, ◌%◌, ◌==◌, ◌&&◌, ◌||◌, nat_lt, not, false, Bool, List, [], ◌∷◌, ◌++◌, filter, length, map, sum_by, take, zip, None, if◌then◌else◌}
+use Rattle.std.specs.Prelude.{ℕ, ◌%◌, ◌==◌, ◌&&◌, ◌||◌, nat_le, nat_lt, not, true, false, Bool, List, [], ◌∷◌, ◌++◌, filter, length, map, sum_by, take, zip, None, if◌then◌else◌}
 use Rattle.std.specs.List.{count_by, list_all}
 use Rattle.std.specs.Ordering.{nat_cmp}
 use Rattle.std.specs.Cmp.Lexicographic.{slice_cmp}
 use Rattle.wf_model.specs.Lists.{below, has, in_order, lists_of}
 use Rattle.wf_model.specs.Simplex.{Simplex, complex_of, processes_of, values_of}
 use Rattle.wf_model.specs.Task.{Task, Tuple}
+use Rattle.wf_model.specs.DecisionMap.{HasNoDecisionMap}
+use Rattle.wf_model.specs.Presets.{different}
 use Rattle.wf_counting.specs.Signs.{keep}
-use Rattle.wf_counting.specs.Obstruction.{same_numbers}
+use Rattle.wf_counting.specs.Rules.{same_numbers}
 use Rattle.wf_trees.specs.Balance.{Multiplier}
 use Rattle.wf_trees.specs.Tuples.{mask_of}
 use Rattle.wf_trees.specs.Trees.{Move, Tree, balance, by_cases, by_cover, by_split, no_tree, tree_before}
+
+-- no function on the views is a decision map, after any number of rounds
+abbrev pub HasNoMap : Task → Type 0
+HasNoMap t = (r : ℕ) → HasNoDecisionMap t r
+
+-- ---- weak symmetry breaking (Gafni, Rajsbaum and Herlihy 2006)
+
+-- the lists of so many values 0 and 1, and both values are there if all n processes decide
+abbrev pub breakings : ℕ → ℕ → List Tuple
+breakings n size = filter (λ tuple. nat_lt size n || nat_le 2 (different tuple)) (lists_of (below 2) size)
+
+-- each process decides 0 or 1, by rank and not by process; if all decide, not all decide the same
+abbrev pub symmetry_breaking : ℕ → Task
+symmetry_breaking n = record {
+  processes = n;
+  symmetric = true;
+  least_block = None;
+  delta = map (λ s. record { input = s; tuples = breakings n (length s) }) (complex_of (map (λ p. (p, 0)) (below n) ∷ []));
+  outputs = complex_of (map (zip (below n)) (breakings n n));
+}
 
 -- ---- balances
 

@@ -1,7 +1,7 @@
 -- Obstructions: trees of cases, splits and covers, whose leaves are balances.
 use Rattle.std.specs.Prelude.{◌≡◌, ◌<◌, ◌==◌, ◌&&◌, ◌+◌, ◌*◌, ℕ, suc, max, false, Bool, List, [], ◌∷◌, ◌++◌, flat_map, length, slice_index_or, if◌then◌else◌}
 use Rattle.wf_model.specs.Task.{Rule, Task, Tuple, first_block}
-use Rattle.wf_counting.specs.Obstruction.{rule_at}
+use Rattle.wf_counting.specs.Rules.{rule_at}
 use Rattle.wf_trees.specs.Balance.{IsBalance, Multiplier}
 use Rattle.wf_trees.specs.Cases.{components, in_case}
 use Rattle.wf_trees.specs.Covers.{Covering, IsCovering, covered}

@@ -2,7 +2,7 @@
 
 ghost use Rattle.std.specs.Prelude.{[], ◌∷◌};
 ghost use Rattle.wf_model.specs.Presets.{own, renaming, set_agreement};
-ghost use Rattle.wf_counting.specs.KnownResults.{HasNoMap, symmetry_breaking};
+ghost use Rattle.wf_trees.specs.KnownResults.{HasNoMap, symmetry_breaking};
 ghost use Rattle.wf_trees.specs.Trees.{IsObstruction};
 ghost use Rattle.wf_trees.specs.KnownResults.{hourglass, hourglass_by_cases, loop_agreement, majority_consensus, one_of_three, punctured_torus};
 

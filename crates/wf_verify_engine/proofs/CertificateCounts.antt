@@ -6,14 +6,15 @@ use Rattle.wf_io.specs.Seen.{Reading, Writing}
 use Rattle.wf_io.specs.Texts as io
 use Rattle.wf_io.specs.declared.source.ReadFault.{ReadFault}
 use Rattle.wf_io.specs.declared.source.ReadFault.TheVariants as read
-use Rattle.wf_obstruction_text.specs.Text.{Obstruction}
+use Rattle.wf_tree_text.specs.Text.{Obstruction}
 use Rattle.wf_verify_engine.specs.declared.outcome.Accepted.{Accepted}
 use Rattle.wf_verify_engine.specs.declared.outcome.Verified.{Verified}
 use Rattle.wf_run.specs.declared.fault.RunFault.{RunFault}
 use Rattle.wf_run.specs.declared.fault.RunFault.TheVariants as run
 use Rattle.wf_run.specs.Run.{Judged, Next, by_result, failed_reads, failed_writes}
 use Rattle.wf_verify_engine.specs.Verify.{IsAccepted}
-use Rattle.wf_verify_engine.specs.Certificates.{ChecksCertificate, ChecksCertificateFor, IsObstructionOf, JudgesObstruction, VerifiesCertificate, as_verified}
+use Rattle.wf_verify_engine.specs.Certificates.{ChecksCertificate, ChecksCertificateFor, JudgesObstruction, VerifiesCertificate, as_verified}
+use Rattle.wf_verify_engine.specs.Obstructions.{IsObstructionOf}
 use Rattle.wf_run.specs.Laws.{IsChecked}
 use Rattle.wf_run.proofs.Counts.{few}
 use Rattle.wf_run.proofs.SourceCounts.{IsReportCounted, both_counted, left_alone}

@@ -6,7 +6,7 @@ use Rattle.wf_model.specs.DecisionMap.{HasNoDecisionMap}
 use Rattle.wf_io.specs.Seen.{Reading, Writing}
 use Rattle.wf_io.specs.Texts.{ReadsText, Wrote}
 use Rattle.wf_io.specs.declared.source.ReadFault.{ReadFault}
-use Rattle.wf_obstruction_text.specs.Text.{Obstruction}
+use Rattle.wf_tree_text.specs.Text.{Obstruction}
 use Rattle.wf_verify_engine.specs.declared.outcome.Accepted.{Accepted}
 use Rattle.wf_verify_engine.specs.declared.outcome.Verified.{Verified}
 use Rattle.wf_verify_engine.specs.declared.outcome.Verified.TheVariants as verified

@@ -25,13 +25,14 @@ mod format;
 mod laws;
 mod listener;
 mod model;
+mod obstruction;
 mod outcome;
 mod pieces;
 mod proof;
 mod readers;
 mod verify;
 
-pub use certificate::{AcceptedCertificate, judge_obstruction, obstruction_of};
+pub use certificate::AcceptedCertificate;
 pub use decisions::MapInWords;
 pub use format::{Clausal, Hinted, ProofFormat};
 pub use laws::{
@@ -42,6 +43,7 @@ pub use laws::{
 };
 pub use listener::{ProofListener, Unheard};
 pub use model::MapOfModel;
+pub use obstruction::{judge_obstruction, obstruction_of};
 pub use outcome::{Accepted, Verified};
 pub use pieces::MOST_PROOF_BYTES;
 pub use proof::NoneByProof;

@@ -1,12 +1,12 @@
 //! Texts that are read and written, lines that are refused, and the numbers of lines.
 
-use crate::{
-    FIRST_LINE, TreeNode, is_obstruction_text, line_of, obstructions_are_read_as_written,
-    obstructions_are_written_as_read, read_obstruction, write_obstruction,
-};
 use std::alloc::{AllocError, Global};
 use std::test::Fail;
 use wf_report::CertFault;
+use wf_tree_text::{
+    FIRST_LINE, TreeNode, is_obstruction_text, line_of, obstructions_are_read_as_written,
+    obstructions_are_written_as_read, read_obstruction, write_obstruction,
+};
 
 /// The lines in front of the nodes.
 const FRONT: &str = "wfcheck obstruction 1\nprocesses 3\nsimplices 7\n";
