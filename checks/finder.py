@@ -1,8 +1,8 @@
 """Small tasks, and what `wfcheck obstruction` has to say of each: a part of checks/fuzz.
 
 Each task is asked about modulo 2 and 3, and without a modulus; the kept ones modulo 4, 8 and 9 as well. The program has to find an
-obstruction exactly where oracle/finding.py does, and oracle/obstructions.py has to accept what it finds. It may say that no modulus
-has an obstruction only where oracle/finding.py finds whole numbers that show it."""
+obstruction wherever oracle/finding.py does, and oracle/obstructions.py has to accept what it finds, of this task. It may say that no
+modulus has an obstruction only where oracle/finding.py finds whole numbers that show it."""
 import itertools
 import json
 import random
@@ -16,7 +16,7 @@ import task_file
 ROOT = common.ROOT
 PRIMES = [2, 3]
 POWERS = [2, 3, 4, 8, 9]
-# tasks of tests/obstructions, and the moduli of POWERS that have an obstruction
+# tasks of tests/obstructions, and the moduli of POWERS by which they have a balance
 KEPT = {
     "modulo-4-alone": [4, 8],
     "modulo-4": [3, 4, 8, 9],
@@ -52,7 +52,7 @@ def case(seed, number):
 
 
 def kept():
-    """The texts of the kept tasks by their names, and the moduli that have an obstruction."""
+    """The texts of the kept tasks by their names, and the moduli by which they have a balance."""
     return {name: ((ROOT / f"tests/obstructions/{name}.json").read_bytes(), having) for name, having in KEPT.items()}
 
 
@@ -60,22 +60,22 @@ def wrong(run, text, moduli, having=None):
     """What is wrong with what the program says of a task, or None."""
     task = task_file.read(text)[0]
     for modulus in moduli:
-        found = finding.find(task, modulus)
+        found = finding.find(task, [modulus])
         if found:
-            obstructions.judge(task, finding.text_of(task, modulus, found))
-        if having is not None and bool(found) != (modulus in having):
-            return f"oracle/finding.py finds {'an' if found else 'no'} obstruction modulo {modulus}"
+            obstructions.judge(task, finding.text_of(task, found))
+        if having is not None and bool(finding.balance(obstructions.hand_of(task), modulus)) != (modulus in having):
+            return f"oracle/finding.py finds {'no' if modulus in having else 'a'} balance modulo {modulus}"
         ran = run(["obstruction", "--modulus", str(modulus)], text)
         if fault := wrong_modulus(task, modulus, found, ran):
             return f"modulo {modulus}: {fault}"
-    if having is not None and (least := finding.find_any(task)[0]) != having[0]:
-        return f"oracle/finding.py finds an obstruction modulo {least}, and not modulo {having[0]}"
+    if having is not None and (least := finding.find(task)[-1].numbers[0]) != having[0]:
+        return f"oracle/finding.py finds a balance modulo {least}, and not modulo {having[0]}"
     return wrong_whole(task, run(["obstruction"], text))
 
 
 def wrong_modulus(task, modulus, found, ran):
     """What is wrong with what the program says of a task and a modulus, or None."""
-    if found:
+    if found or ran.returncode == 0:
         return wrong_found(task, modulus, ran)
     right = (ran.returncode, ran.stdout, ran.stderr) == (1, b"", f"no obstruction modulo {modulus}\n".encode())
     return None if right else f"there is none: {shown(ran)}"
@@ -89,7 +89,8 @@ def wrong_found(task, modulus, ran):
         judged = obstructions.judge(task, ran.stdout.decode())
     except (obstructions.Refused, UnicodeDecodeError) as refused:
         return f"what is found is refused: {refused}"
-    return None if modulus in (None, judged.modulus) else f"the obstruction is modulo {judged.modulus}"
+    moduli = sorted({it.modulus for it in judged})
+    return None if modulus is None or moduli in ([], [modulus]) else f"the obstruction is modulo {moduli}"
 
 
 def wrong_whole(task, ran):
@@ -100,9 +101,9 @@ def wrong_whole(task, ran):
     if ran.returncode != 1 or ran.stdout or not said:
         return shown(ran)
     if said[1]:
-        return None if finding.has_integers(task) else "some modulus has an obstruction, and it says that none has"
+        return None if finding.has_none(task) else "some modulus has an obstruction, and it says that none has"
     for modulus in [it for it in map(int, said[2].split(", ")) if it <= LARGEST]:
-        if finding.find(task, modulus):
+        if finding.find(task, [modulus]):
             return f"it says that there is none, and there is one modulo {modulus}"
     return None
 

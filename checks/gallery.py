@@ -31,6 +31,7 @@ import common
 import formula
 import independent
 import known
+import obstructions
 import second_opinion as opinion
 from wfcheck.asking import words as asking
 from wfcheck.gallery import gallery
@@ -65,10 +66,10 @@ def wrong_task(name, its_rows, row):
     kept = file.read_text()
     if (found.returncode, found.stderr) != (0, "") or SAME_BYTES and found.stdout != kept:
         return f"`wfcheck obstruction`: status {found.returncode}, {found.stderr or 'another obstruction than the one that is kept'}", ""
-    if tuples_of(kept) != row.tuples:
-        return f"the table says {row.tuples} tuples, the obstruction has {tuples_of(kept)}", ""
-    faults = [wrong_obstruction(path, text, row.modulus) for text in dict.fromkeys([kept, found.stdout])]
-    return next(filter(None, faults), None), f"found modulo {row.modulus} with {tuples_of(found.stdout)} tuples, accepted, holds"
+    if numbers_of(kept) != row[1:]:
+        return f"the table says {row[1:]}, and the obstruction has {numbers_of(kept)}", ""
+    faults = [wrong_obstruction(path, text) for text in dict.fromkeys([kept, found.stdout])]
+    return next(filter(None, faults), None), f"found modulo {row.modulus} with {row.multipliers} multipliers, accepted, holds"
 
 
 def wrong_silence(path, found):
@@ -80,15 +81,16 @@ def wrong_silence(path, found):
     return None if is_right else f"`wfcheck obstruction`: status {found.returncode}, {found.stderr}"
 
 
-def tuples_of(obstruction):
-    """How many weighted tuples an obstruction has, in digits."""
-    return str(obstruction.count(chr(10) + "t "))
+def numbers_of(text):
+    """The nodes of an obstruction, the moduli of its balances, and how many multipliers these have, as the table has them."""
+    nodes = obstructions.read(text).nodes
+    balances = [it for it in nodes if it.name == "balance"]
+    moduli = dict.fromkeys(str(it.numbers[0]) for it in balances)
+    return ", ".join(it.name for it in nodes), ", ".join(moduli), str(sum(len(it.entries) for it in balances))
 
 
-def wrong_obstruction(path, text, modulus):
+def wrong_obstruction(path, text):
     """What is wrong with an obstruction of a task, or None."""
-    if text.split("\n")[3] != f"modulus {modulus}":
-        return f"the table says modulo {modulus}, the obstruction has the line {text.split(chr(10))[3]!r}"
     verified = program(["verify", "--task", path], text, 60)
     if verified.stdout != "accepted none at every number of rounds\n":
         return f"verify: {verified.stdout}{verified.stderr}"

@@ -1,20 +1,20 @@
 """What is known of the gallery's tasks, as gallery/rows.tsv has it: a line for each number of rounds that was asked, and one for all of them.
 
 The line of a task with the rounds `every` says in which table of gallery/README.md the task stands, what it is, what theory says, what
-is proved here, and if it has an obstruction the modulus of that, and how many tuples."""
+is proved here, and if it has an obstruction its nodes, the modulus of its balances, and how many multipliers these have."""
 import collections
 import csv
 
 import common
 
 ROWS = common.ROOT / "gallery/rows.tsv"
-COLUMNS = "table task rounds answer points executions lines needed steps time theory proved modulus tuples about"
+COLUMNS = "table task rounds answer points executions lines needed steps time theory proved tree modulus multipliers about"
 EVERY = "every"
 Line = collections.namedtuple("Line", COLUMNS)
 # a number of rounds of a task, and what its `every` line says of it
 Row = collections.namedtuple("Row", "name theory proved rounds answer points executions lines needed steps time")
 # a task with an obstruction
-Never = collections.namedtuple("Never", "name modulus tuples")
+Never = collections.namedtuple("Never", "name tree modulus multipliers")
 
 
 def lines():
@@ -39,4 +39,4 @@ def rows():
 
 def nevers():
     """The tasks with an obstruction."""
-    return [Never(it.task, it.modulus, it.tuples) for it in lines() if it.modulus]
+    return [Never(it.task, it.tree, it.modulus, it.multipliers) for it in lines() if it.tree]

@@ -7,7 +7,7 @@ with a report of none that has no lines, or why it can't read the report, and en
 opened, or the task is refused. Whether a map is the least one it looks at where the report has the lines for it.
 
 The report may be an obstruction, which obstructions.py judges. Then it says `holds: none at every number of rounds`, or what is
-wrong. It also gives random values to the points after 0, 1 and 2 rounds, and counts the executions as the obstruction says, if there
+wrong. It also gives random values to the points after 0, 1 and 2 rounds, and counts the executions as each balance says, if there
 are at most 20,000 of them."""
 import argparse
 import itertools
@@ -140,18 +140,20 @@ def executions_of(task, rounds):
     return sum(len(words_of(task, s)) ** rounds for s in inputs_of(task))
 
 
-def wrong_count(task, found):
-    """Tries what an obstruction says: whichever of these values the points have, the signed executions have the sum of their tuples' weights."""
-    inputs, values, choose = inputs_of(task), obstructions.values_of(task), random.Random(1)
-    weights = {(inputs[it.simplex], it.values): it.weight for it in found.tuples}
+def wrong_count(task, balances):
+    """Tries what balances say: whichever values the points have, the signed executions, each as often as its tuple counts in the sum of
+    the equations, add up to the balance's sum. Where executions on two simplices decide alike, those on one are counted."""
+    choose = random.Random(1)
     for rounds in range(3):
         made = Complex(task, rounds) if executions_of(task, rounds) <= MOST_COUNTED else None
-        for _ in range(5 if made else 0):
-            at = [choose.choice(values) for _ in range(made.points)]
-            tuples = [(s, tuple(at[v] for v in points)) for (s, _), (_, points, _) in zip(made.signed, made.executions)]
-            count = sum(sign * weights.get(it, 0) for (_, sign), it in zip(made.signed, tuples)) % found.modulus
-            if count != found.sum:
-                return f"where the points after {rounds} rounds have the values {at}, the count is {count}, and not {found.sum}"
+        for it in balances if made else []:
+            alike, values = {it.hand.kin(simplex): simplex for simplex in it.hand.inputs}, it.hand.values()
+            signed = [(s, sign, points) for (s, sign), (_, points, _) in zip(made.signed, made.executions) if alike[it.hand.kin(s)] == s]
+            for _ in range(5):
+                at = [choose.choice(values) for _ in range(made.points)]
+                count = sum(sign * it.count(s, tuple(at[v] for v in points)) for s, sign, points in signed) % it.modulus
+                if count != it.sum:
+                    return f"where the points after {rounds} rounds have the values {at}, the count is {count}, and not {it.sum}"
     return None
 
 

@@ -114,12 +114,12 @@ class Answers(Case):
         found = wfcheck.explain(known("majority-3"), wfcheck.solve(known("majority-3"), 1))
         self.assertEqual(found.split("\n")[0], "No decision map after 1 round: 3 steps over 3 of 146 executions.")
 
-    def test_an_obstruction_has_its_tuples(self):
+    def test_an_obstruction_has_its_nodes(self):
         task = known("consensus-2")
         found = wfcheck.obstruction(task)
         zero, one = (0, 0), (1, 1)
-        tuples = [((zero,), (1,), 1), ((one,), (0,), 1), ((zero, one), (0, 1), 1), ((zero, one), (1, 0), 1)]
-        self.assertEqual((found.modulus, found.sum, [*map(tuple, found.tuples)]), (2, 1, tuples))
+        self.assertEqual([(it.name, it.numbers, len(it.lines)) for it in found.nodes], [("balance", (2, 1), 3)])
+        self.assertEqual([*map(tuple, found.multipliers())], [((zero,), 0, (), 1), ((zero, one), 0, (0,), 1), ((zero, one), 1, (0,), 1)])
         self.assertEqual(found.text, (ANSWERS / "consensus-2.obstruction").read_text())
         self.assertEqual(wfcheck.verify(task, found), "accepted none at every number of rounds")
         self.assertIsNone(wfcheck.obstruction(known("symmetry-breaking-3"), 2))
@@ -147,7 +147,7 @@ class Answers(Case):
     def test_questions_are_decided(self):
         task, proof = known("set-agreement-3-2"), ANSWERS / "set-agreement-3-2-2.drat"
         never, none = wfcheck.decide(task, 2), wfcheck.decide(task, 1, use_obstructions=False, solver="search")
-        self.assertEqual((type(never), len(never.tuples)), (wfcheck.Obstruction, 15))
+        self.assertEqual((type(never), len(never.multipliers())), (wfcheck.Obstruction, 9))
         self.assertEqual((type(none), none.rounds), (wfcheck.Refutation, 1))
         solver = f"sh -c 'echo s UNSATISFIABLE; cat {proof} > {{proof}}'"
         proved = wfcheck.decide(task, 2, use_obstructions=False, solver=solver)

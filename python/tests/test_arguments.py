@@ -85,7 +85,7 @@ class Arguments(Case):
         task, steps = wfcheck.Task("x" * 10_000, "y" * 10_000), (wfcheck.Closed(1),) * 10_000
         texts = [repr(it) for it in (
             task, wfcheck.Map(task, 1, {(0, it): it for it in range(1000)}, steps, "z" * 10_000), wfcheck.Refutation(task, 2, steps, "z" * 10_000),
-            wfcheck.Proof(task, 2, "z" * 10_000, True), wfcheck.Obstruction(task, 2, 1, steps, "z" * 10_000))]
+            wfcheck.Proof(task, 2, "z" * 10_000, True), wfcheck.Obstruction(task, steps, "z" * 10_000))]
         for text in texts:
             self.assertLessEqual((len(text), text.count("\n")), (240, 0))
         self.assertRegex(texts[1], r"^<Map of <Task 'x.*, 10,000 bytes> after 1 round: 1,000 views, values 0 to 999>$")

@@ -38,13 +38,13 @@ class WithoutProgram(Case):
             self.assertEqual(self.python("-m", "wfcheck", "task", *words)[0], 2)
 
     def test_finding_without_a_modulus(self):
-        """The oracle writes an obstruction modulo the least modulus that has one, or says that no modulus has one."""
+        """The oracle writes an obstruction by the first modulus that has a balance, or says that no modulus has one."""
         for task, modulus in [("consensus-2", 2), ("modulo-4-alone", 4), ("modulo-4", 3), ("modulo-9-symmetric", 2)]:
             file = next(it for it in (TASKS / f"{task}.json", ROOT / f"tests/obstructions/{task}.json") if it.is_file())
             status, text = self.python(ROOT / "oracle/finding.py", file)
-            self.assertEqual((status, text.split("\n")[3]), (0, f"modulus {modulus}"))
+            self.assertEqual((status, text.split("\n")[3].split(" ")[:2]), (0, ["balance", str(modulus)]))
             (self.folder / "found").write_text(text)
-            self.assertEqual(self.python(ROOT / "oracle/obstructions.py", file, self.folder / "found")[0], 0)
+            self.assertEqual(self.python(ROOT / "oracle/second_opinion.py", file, self.folder / "found")[0], 0)
         self.assertEqual(self.python(ROOT / "oracle/finding.py", TASKS / "renaming-2-names-3.json"), (1, "no obstruction for any modulus\n"))
 
     def test_words_that_mean_nothing(self):

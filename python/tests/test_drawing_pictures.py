@@ -10,6 +10,7 @@ import unittest.mock
 import xml.etree.ElementTree
 
 import wfcheck
+from wfcheck.answers import obstruction_of
 from wfcheck.drawing import argument, counting, graphs, labels, main, outputs, page, palette, pictures, scene, subdivision
 from wfcheck.drawing.svg import svg
 from wfcheck.tasks import read
@@ -84,12 +85,18 @@ class Arguments(unittest.TestCase):
             self.assertRaises(Unreadable, argument.argument_of, text)
 
 
+def known_weights(made):
+    """The weights of the gallery's obstruction of a task."""
+    text = (TOP / f"gallery/answers/{made.name}.obstruction").read_text()
+    return counting.weights_of(subdivision.rules_of(made), obstruction_of(made, text))
+
+
 class Texts(unittest.TestCase):
     """SVG and HTML."""
 
     def scenes(self):
         choice, majority, agreement = pictures.Choice(), known("majority-3"), known("set-agreement-3-2")
-        weights = counting.weighted(agreement, (TOP / "gallery/answers/set-agreement-3-2.obstruction").read_text())
+        weights = known_weights(agreement)
         return [pictures.of_complex(known("consensus-2-bits"), 2, choice), pictures.of_complex(known("consensus-4"), 1, choice),
                 pictures.of_map(known("no-minority-3"), 0, [0, 1] * 3, choice),
                 pictures.of_refutation(majority, 1, argument.argument_of(THREE), choice),

@@ -18,7 +18,7 @@ LONGEST, OLDEST = 40, (3, 9)
 # what runs as soon as it is imported
 RUNS = {"wfcheck.__main__"}
 # what the page about the module need not name
-OTHERS = {"Answer", "Branching", "Closed", "Step", "Taken", "View", "Weighted"}
+OTHERS = {"Answer", "Branching", "Closed", "Multiplier", "Node", "Step", "Taken", "View"}
 
 
 def modules():

@@ -12,7 +12,7 @@ release/wfcheck of this repository, or it is on the path. `python3 -m wfcheck --
 import sys
 
 try:
-    from .answers import Answer, Branching, Closed, Map, Obstruction, Proof, Refutation, Step, Taken, Weighted
+    from .answers import Answer, Branching, Closed, Map, Multiplier, Node, Obstruction, Proof, Refutation, Step, Taken
     from .running import Error, NoAnswer, NoFile, NoProgram, Refused
     from .deciding import ask, decide
     from .outcomes import Between, From, MapAt, Never, NoneUpTo, NotDecided
@@ -28,7 +28,7 @@ except Exception as error:
     raise
 
 __all__ = [
-    "Answer", "Between", "Branching", "Closed", "Error", "From", "Map", "MapAt", "Mistake", "Never", "NoAnswer", "NoFile", "NoProgram",
-    "NoneUpTo", "NotDecided", "Obstruction", "Proof", "Refutation", "Refused", "Step", "Taken", "Task", "View", "Weighted", "ask", "decide", "explain", "obstruction", "points", "read", "restrict", "solve", "task",
+    "Answer", "Between", "Branching", "Closed", "Error", "From", "Map", "MapAt", "Mistake", "Multiplier", "Never", "NoAnswer", "NoFile",
+    "NoProgram", "Node", "NoneUpTo", "NotDecided", "Obstruction", "Proof", "Refutation", "Refused", "Step", "Taken", "Task", "View", "ask", "decide", "explain", "obstruction", "points", "read", "restrict", "solve", "task",
     "__version__", "trim", "verify", "write",
 ]

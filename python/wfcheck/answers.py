@@ -10,9 +10,10 @@ from .tasks import Simplex, Task
 from .views import Unreadable, View, words_of
 
 FIRST, OBSTRUCTION = "wfcheck report 1", "wfcheck obstruction 1"
-# behind the first line of a report stand its processes, rounds, points, executions and answer; of an obstruction its processes, simplices,
-# modulus and sum
-HEAD = 6
+# behind the first line of a report stand its processes, rounds, points, executions and answer; of an obstruction its processes and simplices
+HEADS = {FIRST: 6, OBSTRUCTION: 3}
+# the nodes of an obstruction, and the lines below them
+NODES, BELOW = {"case", "split", "cover", "balance"}, {"p": "cover", "m": "balance"}
 # how many rows of a table a notebook shows
 SHOWN = 200
 NUMBER = re.compile(r"0|[1-9]\d*", re.A)
@@ -42,10 +43,18 @@ NUMBERS = {"p": 3, "b": 1, "z": 1}
 LEAST = "f"
 
 
-class Weighted(NamedTuple):
-    """A tuple that the task does not allow, with its weight: where the processes of an input simplex decide these values."""
+class Node(NamedTuple):
+    """A node of an obstruction: a case, a split, a cover or a balance, with the numbers of its line and of those below it."""
+    name: str
+    numbers: Tuple[int, ...]
+    lines: Tuple[Tuple[int, ...], ...]
+
+
+class Multiplier(NamedTuple):
+    """How often an equation of a balance counts: that of a participant of an input simplex, with a value for each other one."""
     simplex: Simplex
-    values: Tuple[int, ...]
+    participant: int
+    others: Tuple[int, ...]
     weight: int
 
 
@@ -119,16 +128,20 @@ class Proof:
 
 @dataclasses.dataclass(frozen=True, repr=False)
 class Obstruction:
-    """There is no decision map after any number of rounds. Whatever is decided, the weights of the tuples that occur add up to `sum`
-    modulo `modulus`, and that is not 0. `text` is what `verify` accepts."""
+    """There is no decision map after any number of rounds: a tree of these nodes, in preorder, whose last ones are balances. `text` is what
+    `verify` accepts."""
     task: Task
-    modulus: int
-    sum: int
-    tuples: Tuple[Weighted, ...]
+    nodes: Tuple[Node, ...]
     text: str
 
     def __repr__(self) -> str:
-        return f"<Obstruction of {self.task!r}: {len(self.tuples):,} tuples, the sum {self.sum} modulo {self.modulus}>"
+        many = len(self.nodes)
+        return f"<Obstruction of {self.task!r}: {many:,} {'node' if many == 1 else 'nodes'}>"
+
+    def multipliers(self) -> Tuple[Multiplier, ...]:
+        """The multipliers of all balances, in their order. Below a split or a cover values have names that the task doesn't have."""
+        simplices, lines = self.task.simplices(), [it for node in self.nodes if node.name == "balance" for it in node.lines]
+        return tuple(Multiplier(simplices[at], simplices[at][place][0], tuple(others), weight) for weight, at, place, *others in lines)
 
     def _repr_svg_(self) -> Optional[str]:
         """The answer as a picture, where a notebook shows it."""
@@ -184,8 +197,7 @@ def body(text: str, first: str) -> Tuple[List[str], List[str]]:
     lines = text.split("\n")
     if lines[0] != first or lines[-2:] != ["end", ""]:
         raise Unreadable(f"the text is not whole, or does not begin with {first!r}")
-    head = HEAD if first == FIRST else HEAD - 1
-    return lines[1:head], lines[head:-2]
+    return lines[1:HEADS[first]], lines[HEADS[first]:-2]
 
 
 class Report(NamedTuple):
@@ -212,14 +224,14 @@ def step_of(line: str) -> Step:
 
 def obstruction_of(task: Task, text: str) -> Obstruction:
     """The obstruction of a task that a text is."""
-    head, lines = body(text, OBSTRUCTION)
-    (modulus,), (total,) = (numbers(line.split(" ")[1:], line) for line in head[2:4])
-    simplices, at, tuples = task.simplices(), 0, []
-    for line in lines:
-        kind, *words = line.split(" ")
-        if kind == "s":
-            at = numbers(words, line)[0]
+    nodes: List[Tuple[str, Tuple[int, ...], List[Tuple[int, ...]]]] = []
+    for line in body(text, OBSTRUCTION)[1]:
+        name, *words = line.split(" ")
+        found = tuple(numbers(words, line))
+        if name in NODES:
+            nodes.append((name, found, []))
+        elif nodes and nodes[-1][0] == BELOW.get(name):
+            nodes[-1][2].append(found)
         else:
-            weight, *values = numbers(words, line)
-            tuples.append(Weighted(simplices[at], tuple(values), weight))
-    return Obstruction(task, modulus, total, tuple(tuples), text)
+            raise Unreadable(f"{line[:40]!r} is no line of an obstruction")
+    return Obstruction(task, tuple(Node(name, found, tuple(lines)) for name, found, lines in nodes), text)

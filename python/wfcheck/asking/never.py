@@ -13,7 +13,7 @@ from .runs import Clock, Late, Refused, Scope, say
 
 ACCEPTED = "accepted none at every number of rounds"
 FIRST_BLOCK, GAVE_UP = "wfcheck: 50 FirstBlock", "wfcheck: 60 GaveUp"
-MODULUS = re.compile(r"^modulus (\d+)$", re.M)
+NODE = re.compile(r"^(case|split|cover|balance) (\d+)", re.M)
 
 
 def is_never(words: argparse.Namespace) -> bool:
@@ -74,12 +74,16 @@ def is_accepted(words: argparse.Namespace, file: pathlib.Path, scope: Scope, clo
     if accepted:
         if words.by_branch:
             words.given.close()
-        say(f"    never: no map after any number of rounds (obstruction {in_words(file)})")
+        say(f"    never: no map after any number of rounds (obstruction of {in_words(file)})")
     return accepted
 
 
 def in_words(file: pathlib.Path) -> str:
-    """The modulus of an obstruction, and how many tuples it weighs."""
+    """How many nodes an obstruction has, and how many multipliers modulo which numbers."""
     text = file.read_text(errors="replace")
-    modulus, tuples = MODULUS.search(text), text.count("\nt ")
-    return f"modulo {modulus[1] if modulus else '?'}, {tuples:,} {'tuple' if tuples == 1 else 'tuples'}"
+    nodes, multipliers = NODE.findall(text), text.count("\nm ")
+    moduli = sorted({int(number) for name, number in nodes if name == "balance"})
+    told = f"{len(nodes):,} {'node' if len(nodes) == 1 else 'nodes'}"
+    if not moduli:
+        return told
+    return f"{told}, {multipliers:,} {'multiplier' if multipliers == 1 else 'multipliers'} modulo {', '.join(map(str, moduli))}"

@@ -1,12 +1,13 @@
 """Obstructions as weights: which tuples carry which weight on which simplex, and the count of a choice of values.
 
-The picture knows no text. `weighted` reads the text of an obstruction, and `balanced` has the weights of a list of multipliers."""
+The picture knows no text. `balanced` has the weights of a list of multipliers, and `weights_of` those of an obstruction that is one
+balance."""
 import dataclasses
 import random
-from typing import Dict, Iterable, List, NamedTuple, Sequence, Tuple
+from typing import Dict, Iterable, List, NamedTuple, Optional, Sequence, Tuple
 
-from ..answers import obstruction_of
-from ..tasks import Simplex, Task
+from ..answers import Obstruction
+from ..tasks import Simplex
 from .subdivision import Complex, Rules
 
 # at an input simplex, a participant and the values of the others: a multiplier
@@ -25,23 +26,33 @@ class Weights:
         return list(dict.fromkeys(it for it, _ in self.tuples))
 
 
-def weighted(task: Task, text: str) -> Weights:
-    """The weights of the text of an obstruction, which `verify` accepted."""
-    found = obstruction_of(task, text)
-    return Weights(found.modulus, found.sum, {(it.simplex, it.values): it.weight for it in found.tuples})
+def weights_of(rules: Rules, found: Obstruction) -> Optional[Weights]:
+    """The weights of an obstruction, which `verify` accepted; None of a tree of more nodes, whose balances count in other tasks."""
+    if [it.name for it in found.nodes] != ["balance"]:
+        return None
+    multipliers: Multipliers = {(it.simplex, it.participant, it.others): it.weight for it in found.multipliers()}
+    return balanced(rules, found.nodes[0].numbers[0], multipliers)
 
 
 def balanced(rules: Rules, modulus: int, multipliers: Multipliers) -> Weights:
     """The weights that multipliers of equations give to all tuples: with t at a simplex s, the multipliers of s at t without a participant,
-    less those of the simplices d of one participant more, at t. The sum is that of the vertices' multipliers."""
+    less those of the simplices d of one participant more, at t. The sum is that of the vertices' multipliers. In a symmetric task the first
+    simplex with some inputs stands for all that have them in the order of ranks, since executions on these decide alike."""
+    def key_of(simplex: Simplex) -> Simplex:
+        """What simplices have in common on which executions decide alike."""
+        return tuple((0, value) for _, value in simplex) if rules.symmetric else simplex
+
+    first: Dict[Simplex, Simplex] = {}
+    for it in rules.simplices:
+        first.setdefault(key_of(it), it)
     tuples: Dict[Tuple[Simplex, Tuple[int, ...]], int] = {}
-    for (simplex, participant, others), factor in multipliers.items():
-        place = [p for p, _ in simplex].index(participant)
+    for (named, participant, others), factor in multipliers.items():
+        place, simplex = [p for p, _ in named].index(participant), first[key_of(named)]
         for value in rules.values:
             key = simplex, (*others[:place], value, *others[place:])
             tuples[key] = tuples.get(key, 0) + factor
-        face = simplex[:place] + simplex[place + 1:]
-        if face:
+        if len(simplex) > 1:
+            face = first[key_of(simplex[:place] + simplex[place + 1:])]
             tuples[face, others] = tuples.get((face, others), 0) - factor
     total = sum(factor for (simplex, _, _), factor in multipliers.items() if len(simplex) == 1)
     return Weights(modulus, total % modulus, {it: weight % modulus for it, weight in sorted(tuples.items()) if weight % modulus})

@@ -6,14 +6,14 @@ import sys
 import tempfile
 from typing import Callable, List, NamedTuple, Optional
 
-from ..answers import FIRST, OBSTRUCTION, body, report_of
+from ..answers import FIRST, OBSTRUCTION, body, obstruction_of, report_of
 from ..questions import explain, verify
 from ..running import Error, NoFile, Refused, run
 from ..tasks import Simplex, Task, read, told
 from ..views import Unreadable
 from . import page, pictures
 from .argument import argument_of
-from .counting import weighted
+from .counting import weights_of
 from .outputs import chosen_simplex, of_outputs
 from .pictures import Choice
 from .scene import Scene, TooLarge
@@ -121,7 +121,9 @@ def of_report(task: Task, text: str, choice: Choice) -> Picture:
 
 def of_obstruction(task: Task, text: str, asked: argparse.Namespace, choice: Choice) -> Picture:
     """The picture of an obstruction that was accepted, after one round if none are asked for."""
-    weights, rounds = weighted(task, text), 1 if asked.rounds is None else asked.rounds
+    weights, rounds = weights_of(rules_of(task), obstruction_of(task, text)), 1 if asked.rounds is None else asked.rounds
+    if weights is None:
+        raise Stopped(f"{asked.report} has cases, splits or covers, and an obstruction is drawn if it is one balance")
     scene = pictures.of_obstruction(task, rounds, weights, asked.seed, asked.any, choice)
     made = pictures.part_of(task, rounds, choice, counts=True).made
     return Picture(scene, lambda: page.of_weights(made, weights, scene.count))

@@ -6,27 +6,30 @@ from ..questions import explain
 from ..running import Error
 from . import pictures
 from .argument import argument_of
-from .counting import Weights
+from .counting import weights_of
 from .pictures import Choice
 from .scene import Scene, TooLarge
+from .subdivision import rules_of
 from .svg import svg
 
 ROUNDS, SEED = 1, 1
 
 
 def picture_of(answer: Union[Map, Refutation, Obstruction]) -> Optional[str]:
-    """An answer as SVG. None if it is too large to draw, its task's text is none, or the program can't be asked about its argument."""
+    """An answer as SVG. None if it is too large to draw, its task's text is none, the program can't be asked about its argument, or it is
+    an obstruction of more nodes than one balance."""
     try:
-        return svg(scene_of(answer))
+        scene = scene_of(answer)
+        return svg(scene) if scene else None
     except (TooLarge, Error, KeyError):
         return None
 
 
-def scene_of(answer: Union[Map, Refutation, Obstruction]) -> Scene:
-    """The scene of an answer, of an obstruction after one round."""
+def scene_of(answer: Union[Map, Refutation, Obstruction]) -> Optional[Scene]:
+    """The scene of an answer, of an obstruction after one round if it is one balance."""
     if isinstance(answer, Map):
         return pictures.of_map(answer.task, answer.rounds, [*answer.values.values()], Choice())
     if isinstance(answer, Refutation):
         return pictures.of_refutation(answer.task, answer.rounds, argument_of(explain(answer.task, answer)), Choice())
-    weights = Weights(answer.modulus, answer.sum, {(it.simplex, it.values): it.weight for it in answer.tuples})
-    return pictures.of_obstruction(answer.task, ROUNDS, weights, SEED, False, Choice())
+    weights = weights_of(rules_of(answer.task), answer)
+    return pictures.of_obstruction(answer.task, ROUNDS, weights, SEED, False, Choice()) if weights else None
