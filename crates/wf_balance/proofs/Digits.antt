@@ -5,8 +5,8 @@ use Rattle.std.proofs.lemmas.Bool.{cases_Bool, eqb-true, eqb-false, eq-eqb, ne_e
 use Rattle.std.proofs.lemmas.List.Elements.{recursion_from_All}
 use Rattle.wf_model.specs.Simplex.{Simplex, processes_of, values_of}
 use Rattle.wf_model.specs.Task.{IsTaskSimplex}
-use Rattle.wf_counting.specs.Rules.{label, same_numbers}
-use Rattle.wf_balance.specs.Keys.{but, digits_code}
+use Rattle.wf_counting.specs.Rules.{same_numbers}
+use Rattle.wf_balance.specs.Keys.{but, digits_code, label}
 
 abbrev pub AreDigits : List ℕ → Type 0
 AreDigits xs = AllByRecursion (λ x. x < 2047) xs

@@ -3,9 +3,9 @@ use Rattle.std.proofs.Common.{◌≡◌, ℕ, ◌<◌, ◌≤◌, Bool, List, ma
 use Rattle.std.proofs.lemmas.List.{length-map}
 use Rattle.wf_model.specs.Simplex.{Simplex}
 use Rattle.wf_model.specs.Task.{IsTask, Task}
-use Rattle.wf_counting.specs.Rules.{label, labels, rule_at}
+use Rattle.wf_counting.specs.Rules.{rule_at}
 use Rattle.wf_trees.specs.Balance.{IsMultiplier, Multiplier, input_of}
-use Rattle.wf_balance.specs.Keys.{but, digits_code, key_of, key_with, key_without}
+use Rattle.wf_balance.specs.Keys.{but, digits_code, key_of, key_with, key_without, label, labels}
 use Rattle.wf_balance.proofs.Digits.{but_none, but_removed}
 use Rattle.wf_balance.proofs.Inputs.{few_in, input_within, inputs_of}
 use Rattle.wf_balance.proofs.Settled.{remove_map}

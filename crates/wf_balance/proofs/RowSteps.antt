@@ -2,10 +2,9 @@
 use Rattle.std.proofs.Common.{◌≡◌, ℕ, ◌+◌, ◌<◌, Bool, List, drop, get_or, length, sym, ap, ◌∙◌, subst, arith}
 use Rattle.wf_model.specs.Simplex.{Simplex}
 use Rattle.wf_model.specs.Task.{Rule, Task, Tuple, inputs}
-use Rattle.wf_counting.specs.Rules.{labels}
 use Rattle.wf_task.specs.TaskSeen.{rules_seen}
 use Rattle.wf_balance.specs.Judge.{rules_fault, tuples_fault, unless_fault}
-use Rattle.wf_balance.specs.Keys.{IsTestAt, IsTestOf, digits_code}
+use Rattle.wf_balance.specs.Keys.{IsTestAt, IsTestOf, digits_code, labels}
 use Rattle.wf_balance.proofs.Inputs.{seen_at, seen_long}
 use Rattle.wf_balance.proofs.Steps.{first_left, rule_next}
 

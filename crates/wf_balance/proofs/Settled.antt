@@ -6,10 +6,10 @@ use Rattle.std.proofs.lemmas.Bool.{and_parts, cases_Bool, eq-eqb, eqb-true, eqb-
 use Rattle.std.proofs.lemmas.List.Sums.{sum_by-cons}
 use Rattle.wf_model.specs.Simplex.{Simplex, Vertex, same_vertex}
 use Rattle.wf_model.specs.Task.{Task, Tuple}
-use Rattle.wf_counting.specs.Rules.{label, labels, same_numbers}
+use Rattle.wf_counting.specs.Rules.{same_numbers}
 use Rattle.wf_trees.specs.Alike.{are_alike, same_point}
 use Rattle.wf_trees.specs.Balance.{Multiplier, counts_nothing, counts_with, counts_without, input_of, weight_with, weight_without}
-use Rattle.wf_balance.specs.Keys.{digits_code, is_settled, key, key_with, key_without, sum_below, weight_at, weight_of, weight_under}
+use Rattle.wf_balance.specs.Keys.{digits_code, is_settled, key, key_with, key_without, label, labels, sum_below, weight_at, weight_of, weight_under}
 use Rattle.wf_balance.proofs.Digits.{AreDigits, but_removed, but_small, but_fewer, four_digits, same_digits}
 
 -- ---- simplices with small values

@@ -5,9 +5,9 @@ use Rattle.std.proofs.lemmas.List.Elements.{recursion_from_All}
 use Rattle.wf_model.specs.Simplex.{Simplex, values_of}
 use Rattle.wf_model.specs.Task.{IsTaskSimplex, Rule, Task, Tuple}
 use Rattle.wf_model.proofs.Headline.{each_of_map}
-use Rattle.wf_counting.specs.Rules.{labels, rule_at}
+use Rattle.wf_counting.specs.Rules.{rule_at}
 use Rattle.wf_trees.specs.Balance.{IsMultiplier, Multiplier, counts_nothing}
-use Rattle.wf_balance.specs.Keys.{IsTestAt, IsTestOf, digits_code, weight_under}
+use Rattle.wf_balance.specs.Keys.{IsTestAt, IsTestOf, digits_code, labels, weight_under}
 use Rattle.wf_balance.proofs.Digits.{AreDigits, label_digits}
 use Rattle.wf_balance.proofs.Inputs.{HaveInputs, few_in, input_within}
 use Rattle.wf_balance.proofs.Settled.{IsKeyed, IsShort, IsSmall, settled_is}

@@ -1,10 +1,18 @@
 -- Keys: a place, a list of labels and a list of values as one number.
-use Rattle.std.specs.Prelude.{◌≡◌, ℕ, zero, suc, ◌+◌, ◌*◌, ◌%◌, ◌≤◌, ◌==◌, All, Bool, List, [], ◌∷◌, length, sum_by, if◌then◌else◌}
+use Rattle.std.specs.Prelude.{◌≡◌, ℕ, zero, suc, ◌+◌, ◌*◌, ◌%◌, ◌≤◌, ◌==◌, All, Bool, List, [], ◌∷◌, length, map, sum_by, if◌then◌else◌}
 use Rattle.std.specs.List.{AllByRecursion, remove}
-use Rattle.wf_model.specs.Simplex.{Simplex}
+use Rattle.wf_model.specs.Simplex.{Simplex, Vertex}
 use Rattle.wf_model.specs.Task.{Rule, Task, Tuple}
-use Rattle.wf_counting.specs.Rules.{labels}
 use Rattle.wf_trees.specs.Balance.{Multiplier, input_of}
+
+-- what a face keeps of a vertex: in a symmetric task its input alone, since there processes are
+-- known by their ranks; else a number that no other vertex has
+abbrev pub label : Bool → Vertex → ℕ
+label symmetric v = if symmetric then v.1 else v.0 * 256 + v.1
+
+-- simplices with the same labels decide alike
+abbrev pub labels : Task → Simplex → List ℕ
+labels t s = map (label t.symmetric) s
 
 -- numbers below 2047 as one number
 abbrev pub digits_code : List ℕ → ℕ

@@ -1,8 +1,7 @@
 //! Keys of equations.
 
 ghost use Rattle.std.specs.Prelude.{◌≡◌, ◌<◌, ◌≤◌, ◌+◌, ◌*◌, ◌^◌, All, length, map, slice_index};
-ghost use Rattle.wf_counting.specs.Rules.{label};
-ghost use Rattle.wf_balance.specs.Keys.{but, digits_code, key_of};
+ghost use Rattle.wf_balance.specs.Keys.{but, digits_code, key_of, label};
 
 use wf_simplex::Simplex;
 

@@ -5,9 +5,11 @@ ghost use Rattle.std.specs.Prelude.{◌≡◌};
 
 use std::alloc::{AllocError, Global};
 use std::test::Fail;
-use wf_cover::{CoverFault, Covering, Move, cover_fault, no_fault_exactly_if_covering};
-use wf_refine::first_rows;
-use wf_task::Task;
+use wf_cover::{
+    CoverFault, Covering, Move, cover_fault, covered_rows, no_fault_exactly_if_covering,
+};
+use wf_refine::{RefineFault, first_rows};
+use wf_task::{Row, Task};
 
 /// Three processes go along a triangle that a torus lacks.
 const TORUS: &str = concat!(
@@ -34,6 +36,44 @@ const CHANGES: [Ends; 6] = [
     (0, 2, 2, 1),
     (1, 1, 2, 2),
     (1, 2, 2, 1),
+];
+
+/// The triangles of the torus on two sheets, where the names of the second one are 3, 4 and 5.
+const ON_SHEETS: [[u8; 3]; 34] = [
+    [0, 0, 1],
+    [0, 0, 2],
+    [0, 1, 0],
+    [0, 2, 0],
+    [0, 2, 2],
+    [1, 0, 0],
+    [1, 0, 1],
+    [1, 1, 0],
+    [1, 1, 5],
+    [1, 5, 1],
+    [1, 5, 5],
+    [2, 0, 0],
+    [2, 0, 2],
+    [2, 2, 0],
+    [2, 2, 4],
+    [2, 4, 2],
+    [2, 4, 4],
+    [3, 3, 4],
+    [3, 3, 5],
+    [3, 4, 3],
+    [3, 5, 3],
+    [3, 5, 5],
+    [4, 2, 2],
+    [4, 2, 4],
+    [4, 3, 3],
+    [4, 3, 4],
+    [4, 4, 2],
+    [4, 4, 3],
+    [5, 1, 1],
+    [5, 1, 5],
+    [5, 3, 3],
+    [5, 3, 5],
+    [5, 5, 1],
+    [5, 5, 3],
 ];
 
 /// Moves between these values, all by the same sheets.
@@ -137,5 +177,34 @@ fn a_cover_has_a_corner_and_a_sheet(rt: HostRuntime) -> Result<(), Fail> {
     cover.simplex = 2;
     let one = CoverFault::OneParticipant;
     assert_eq!(rt; cover_fault(alloc, &task, &rows, &cover)?, Some(one));
+    Ok(())
+}
+
+#[test]
+fn the_torus_on_two_sheets(rt: HostRuntime) -> Result<(), Fail> {
+    let alloc = rt.alloc();
+    let task = Task::read_text(alloc, TORUS.as_bytes())?;
+    let rows = first_rows(alloc, &task)?;
+    assert_eq!(rt; rows.len(), 7);
+    let cover = cover_by(2, moves_by(alloc, &CHANGES, &[1, 0])?);
+    assert_eq!(rt; cover_fault(alloc, &task, &rows, &cover)?, None);
+    let found = covered_rows(alloc, &task, &rows, &cover)?;
+    assert_eq!(rt; found.len(), 7);
+    // process 0 alone is on sheet 0, and each other on both
+    assert_eq!(rt; found[0].as_slice(), [Row::new(&[0])].as_slice());
+    assert_eq!(rt;
+        found[1].as_slice(),
+        [Row::new(&[1]), Row::new(&[4])].as_slice()
+    );
+    let edge = [Row::new(&[0, 1]), Row::new(&[3, 4])];
+    assert_eq!(rt; found[3].as_slice(), edge.as_slice());
+    assert_eq!(rt; found[4].as_slice(), edge.as_slice());
+    let other = [Row::new(&[1, 1]), Row::new(&[4, 4])];
+    assert_eq!(rt; found[5].as_slice(), other.as_slice());
+    let mut all = Vec::new(alloc);
+    for values in ON_SHEETS.iter() {
+        all.push(Row::new(&values[..]))?;
+    }
+    assert_eq!(rt; found[6].as_slice(), all.as_slice());
     Ok(())
 }

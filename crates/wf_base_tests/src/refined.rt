@@ -136,7 +136,11 @@ fn the_hourglass_is_taken_apart(rt: HostRuntime) -> Result<(), Fail> {
         // where all three decide, 1 stays in the first triangle of process 0, and is 3 in the other
         let split = split_rows(alloc, &task, &rows, 6)?;
         let pairs = [Row::new(&[0, 2]), Row::new(&[1, 1]), Row::new(&[3, 2])];
-        let all = [Row::new(&[0, 2, 2]), Row::new(&[1, 1, 1]), Row::new(&[3, 2, 2])];
+        let all = [
+            Row::new(&[0, 2, 2]),
+            Row::new(&[1, 1, 1]),
+            Row::new(&[3, 2, 2]),
+        ];
         assert_eq!(rt; split.len(), 7);
         if split.len() == 7 {
             assert_eq!(rt; split[0].as_slice(), [Row::new(&[0])].as_slice());

@@ -2,3 +2,4 @@ pub mod TurnLemmas
 pub mod Rounds
 pub mod FaultSteps
 pub mod Coverings
+pub mod LiftSteps

@@ -17,11 +17,11 @@ use wf_task::{Row, Task};
 
 /// A cover, with its moves under keys.
 #[derive(Drop)]
-struct KeyedCovering<'a> {
+pub(crate) struct KeyedCovering<'a> {
     /// The cover itself.
-    cover: &'a Covering,
+    pub cover: &'a Covering,
     /// The moves, under the keys of [`turn_key`].
-    turns: BTreeMap<u32, MoveUse>,
+    pub turns: BTreeMap<u32, MoveUse>,
 }
 
 /// Why a cover of a task at hand is none: the first reason, in the order of [`CoverFault`].
@@ -143,7 +143,7 @@ fn is_flat_round(round: &KeyedCovering<'_>, tuple: &Row, first: u8, second: u8, 
 }
 
 /// The sheet at another place.
-fn moved(round: &KeyedCovering<'_>, tuple: &Row, from: u8, to: u8, sheet: u8) -> usize
+pub(crate) fn moved(round: &KeyedCovering<'_>, tuple: &Row, from: u8, to: u8, sheet: u8) -> usize
     requires turns { AreTurns round.now.cover.now.moves.items (get nat_cmp round.now.turns) }
     requires from { from < length tuple.now }
     requires to { to < length tuple.now }

@@ -14,7 +14,7 @@ use wf_simplex::Simplex;
 use wf_task::Row;
 
 /// How many sets a table has: 256 for each of four processes.
-const SETS: usize = 1024;
+pub const SETS: usize = 1024;
 
 /// What processes may decide, and how many tuples there may be.
 #[derive(Clone, Copy)]

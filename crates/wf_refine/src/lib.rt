@@ -10,7 +10,7 @@
 //!   [`new_name`]: the first name that no tuple has.
 //! - [`ascending`]: rows in order, each once.
 //! - For the steps that take values apart, here and in the crates above: [`choice_rows`] and tables
-//!   of sets ([`values_alone`], [`set_place`]); faces ([`is_part`], [`mask_of`], [`kept_row`],
+//!   of [`SETS`] sets ([`values_alone`], [`set_place`]); faces ([`is_part`], [`mask_of`], [`kept_row`],
 //!   [`has_row`], [`vertex_at`]); and [`push_within`], which keeps a limit.
 //! - [`RefineFault`]: why a step is refused. [`MOST_TUPLES`], [`MOST_NAME`]: the limits.
 #![tactic(auto)]
@@ -30,7 +30,7 @@ mod values;
 mod ways;
 
 pub use cases::in_case;
-pub use choices::{choice_rows, set_place, values_alone};
+pub use choices::{SETS, choice_rows, set_place, values_alone};
 pub use components::count_components;
 pub use faces::{is_part, kept_row, mask_of, vertex_at};
 pub use fault::{MOST_NAME, RefineFault};

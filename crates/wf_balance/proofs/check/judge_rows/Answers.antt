@@ -4,10 +4,9 @@ use Rattle.std.specs.Ordering.{nat_cmp}
 use Rattle.std.proofs.lemmas.List.{drop_all, get_or-map, length-map}
 use Rattle.std.proofs.lemmas.Result.{err_from_is_err_and}
 use Rattle.wf_model.specs.Task.{Rule, inputs}
-use Rattle.wf_counting.specs.Rules.{labels}
 use Rattle.wf_task.specs.TaskSeen.{rules_seen}
 use Rattle.wf_balance.specs.Judge.{rules_fault, tuples_fault, unless_fault}
-use Rattle.wf_balance.specs.Keys.{digits_code}
+use Rattle.wf_balance.specs.Keys.{digits_code, labels}
 use Rattle.wf_balance.proofs.Inputs.{input_is, seen_long}
 use Rattle.wf_balance.proofs.MultiplierKeys.{rule_labels}
 use Rattle.wf_balance.proofs.RowSteps.{row_step}

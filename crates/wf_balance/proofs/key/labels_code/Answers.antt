@@ -1,7 +1,6 @@
 use Rattle.std.proofs.Common.{◌≤◌, length, map, ◌-◌, sym, ap, ◌∙◌, arith}
 use Rattle.std.proofs.lemmas.List.{length-map}
-use Rattle.wf_counting.specs.Rules.{label}
-use Rattle.wf_balance.specs.Keys.{digits_code}
+use Rattle.wf_balance.specs.Keys.{digits_code, label}
 use Rattle.wf_balance.proofs.Digits.{but_skipped, label_digits, room, last_room}
 use Rattle.wf_balance.proofs.key.labels_code.Goals as goal
 

@@ -1,6 +1,5 @@
 use Rattle.std.proofs.Common.{◌≡◌, ◌≤◌, drop, length, map}
-use Rattle.wf_counting.specs.Rules.{label}
-use Rattle.wf_balance.specs.Keys.{but, digits_code}
+use Rattle.wf_balance.specs.Keys.{but, digits_code, label}
 use Rattle.wf_balance.proofs.key.labels_code.Given as goal
 
 abbrev pub invariant-places : goal.invariant-places

@@ -1,0 +1,298 @@
+//! The task at hand with values on the sheets of a cover.
+
+ghost use Rattle.std.specs.Prelude.{◌≡◌, ◌<◌, ◌≤◌, ◌+◌, ◌*◌, ◌/◌, ◌%◌, ◌++◌, All, IfErr, IfOk, None, OnOk, Some, length, map, true, vec_items};
+ghost use Rattle.std.specs.Cmp.Lexicographic.{slice_cmp};
+ghost use Rattle.std.specs.List.{AllByRecursion};
+ghost use Rattle.std.specs.Ordering.{nat_cmp};
+ghost use Rattle.wf_model.specs.Lists.{below, in_order};
+ghost use Rattle.wf_set.specs.Sets.{values_in};
+ghost use Rattle.wf_counting.specs.Signs.{keep};
+ghost use Rattle.wf_trees.specs.Covers.{covered, is_flat, is_flat_on, lifted, lifts, lifts_on_face, tuples_covered};
+ghost use Rattle.wf_trees.specs.Tuples.{is_part};
+ghost use Rattle.wf_refine.specs.AtHand.{IsAtHand, at_hand};
+ghost use Rattle.wf_refine.specs.Choices.{AreChoices, sets_listed};
+ghost use Rattle.wf_refine.specs.Limits.{IsTooMany};
+ghost use Rattle.wf_refine.specs.Names.{first_new};
+ghost use Rattle.wf_refine.specs.SplitSeen.{rule_of};
+ghost use Rattle.wf_refine.specs.declared.fault.RefineFault.TheVariants.{OutOfMemory};
+ghost use Rattle.wf_cover.specs.Faults.{cover_fault, cover_seen};
+ghost use Rattle.wf_cover.specs.LiftSeen.{IsLift, lift_seen, on_sheets, sheeted};
+ghost use Rattle.wf_cover.specs.Limits.{sheets_fault};
+
+use crate::cover::Covering;
+use crate::flat::{KeyedCovering, moved};
+use crate::turns::turns_of;
+use std::alloc::{AllocError, Global};
+use wf_refine::{
+    MOST_NAME, MOST_TUPLES, RefineFault, SETS, ascending, choice_rows, has_row, is_part, kept_row,
+    mask_of, new_name, push_within, vertex_at,
+};
+use wf_set::{Mask, nothing, only, with};
+use wf_simplex::Simplex;
+use wf_task::{Row, Task};
+
+/// The task at hand with values on the sheets of a cover that has no fault. On the faces of its
+/// simplex the tuples are on sheets as those of the simplex are, and the corner alone is on sheet
+/// 0. Elsewhere the processes of the simplex may decide a value on any sheet.
+///
+/// # Errors
+///
+/// [`RefineFault::TooManyNames`] if the names of all sheets are too many for a byte, or else
+/// [`RefineFault::TooManyTuples`] if more than [`MOST_TUPLES`](wf_refine::MOST_TUPLES) tuples would
+/// be made, unless memory runs out.
+pub fn covered_rows(
+    alloc: Global,
+    task: &Task,
+    rows: &[Vec<Row>],
+    cover: &Covering,
+) -> Result<Vec<Vec<Row>>, RefineFault>
+    requires at_hand { IsAtHand task.now (map vec_items rows.now) }
+    requires simplex { cover.now.simplex < length rows.now }
+    requires faultless { cover_fault (cover_seen (at_hand task.now (map vec_items rows.now)) cover.now) ≡ None }
+    ensures covered { IfOk result (λ found.
+        let t = at_hand task.now (map vec_items rows.now) in
+        at_hand task.now (map vec_items found.items) ≡ covered (cover_seen t cover.now) t) }
+    ensures at_hand { IfOk result (λ found. IsAtHand task.now (map vec_items found.items)) }
+    ensures within { IfOk result (λ found.
+        let t = at_hand task.now (map vec_items rows.now) in
+        sheets_fault (cover_seen t cover.now) t ≡ None) }
+    ensures refused { IfErr result (λ fault. (fault ≡ OutOfMemory → ⊥)
+        → let t = at_hand task.now (map vec_items rows.now) in
+        sheets_fault (cover_seen t cover.now) t ≡ Some fault) }
+{
+    let new = new_name(task, rows);
+    if u32::from(cover.sheets) * new > MOST_NAME + 1 {
+        return Err(RefineFault::TooManyNames);
+    }
+    let simplices = task.inputs().simplices();
+    let number = cover.simplex as usize;
+    let lift = lift_by(alloc, cover, &simplices[number], &rows[number], new)?;
+    let mut found = Vec::with_capacity(alloc, rows.len())?;
+    let mut left = MOST_TUPLES;
+    'simplices: for (place, tuples) in rows.iter().enumerate() {
+        let made = rows_covered(alloc, &lift, &simplices[place], tuples, left)?;
+        left -= made.len();
+        found.push_reserved(ascending(made));
+    }
+    Ok(found)
+}
+
+/// A cover, and what it puts on sheets.
+#[derive(Drop)]
+pub(crate) struct Lift<'a> {
+    /// The cover, with its moves under keys.
+    pub round: KeyedCovering<'a>,
+    /// The covered simplex.
+    pub simplex: Simplex,
+    /// Its tuples.
+    pub rows: &'a [Row],
+    /// How many names each sheet has.
+    pub new: u32,
+    /// The vertex that alone is on sheet 0.
+    pub corner: Simplex,
+    /// For each process of the simplex and each value the value on all sheets; elsewhere the value
+    /// itself.
+    pub sets: Vec<Mask>,
+}
+
+/// What a cover puts on sheets, of which each has so many names.
+fn lift_by<'a>(
+    alloc: Global,
+    cover: &'a Covering,
+    simplex: &Simplex,
+    rows: &'a [Row],
+    new: u32,
+) -> Result<Lift<'a>, AllocError>
+    requires long { All (λ row. length row ≡ length simplex.now) rows.now }
+    requires small { AllByRecursion (AllByRecursion (λ value. value < new)) rows.now }
+    requires corner { cover.now.corner < length simplex.now }
+    requires flat { is_flat (sheeted cover.now simplex.now rows.now new) ≡ true }
+    requires names { cover.now.sheets * new ≤ first_new }
+    requires few { new ≤ first_new }
+    ensures seen { IfOk result (λ lift. lift_seen lift
+        ≡ sheeted cover.now simplex.now rows.now new) }
+    ensures lift { IfOk result (λ lift. IsLift lift) }
+{
+    let turns = turns_of(alloc, &cover.moves)?;
+    let sets = sheet_sets(alloc, simplex, cover.sheets, new)?;
+    Ok(Lift {
+        round: KeyedCovering { cover, turns },
+        simplex: *simplex,
+        rows,
+        new,
+        corner: vertex_at(simplex, cover.corner),
+        sets,
+    })
+}
+
+/// For each process of a simplex and each value below `new` the value on each sheet; elsewhere the
+/// value itself.
+fn sheet_sets(
+    alloc: Global,
+    simplex: &Simplex,
+    sheets: u8,
+    new: u32,
+) -> Result<Vec<Mask>, AllocError>
+    requires names { sheets * new ≤ first_new }
+    requires few { new ≤ first_new }
+    ensures { IfOk result (λ sets. AreChoices (on_sheets simplex.now sheets new) new sets.items) }
+{
+    let mut sets = Vec::with_capacity(alloc, SETS)?;
+    'places: for place in 0..SETS {
+        sets.push_reserved(set_at(simplex, sheets, new, place));
+    }
+    Ok(sets)
+}
+
+/// The set at a place of the table.
+fn set_at(simplex: &Simplex, sheets: u8, new: u32, place: usize) -> Mask
+    requires names { sheets * new ≤ first_new }
+    requires inside { place < sets_listed }
+    ensures { place % 256 < new
+        → values_in result ≡ on_sheets simplex.now sheets new (place / 256) (place % 256) }
+{
+    let process = (place / 256) as u8;
+    let value = (place % 256) as u8;
+    if u32::from(value) >= new {
+        return only(value);
+    }
+    if simplex.place(process).is_none() {
+        return only(value);
+    }
+    sheet_set(value, sheets, new)
+}
+
+/// A value on each sheet.
+fn sheet_set(value: u8, sheets: u8, new: u32) -> Mask
+    requires names { sheets * new ≤ first_new }
+    requires value { value < new }
+    ensures { values_in result ≡ map (λ sheet. value + sheet * new) (below sheets) }
+{
+    let mut set = nothing();
+    'sheets: for sheet in 0..sheets {
+        let more = with(set, name_on(value, u32::from(sheet), new));
+        set = more;
+    }
+    set
+}
+
+/// The name of a value on a sheet.
+fn name_on(value: u8, sheet: u32, new: u32) -> u8
+    requires { value + sheet * new ≤ 255 }
+    ensures { result ≡ value + sheet * new }
+{
+    (u32::from(value) + sheet * new) as u8
+}
+
+/// The tuples of a simplex after a cover, in any order.
+fn rows_covered(
+    alloc: Global,
+    lift: &Lift<'_>,
+    simplex: &Simplex,
+    rows: &[Row],
+    most: usize,
+) -> Result<Vec<Row>, RefineFault>
+    requires lift { IsLift lift.now }
+    requires ascending { in_order (slice_cmp nat_cmp) rows.now ≡ rows.now }
+    requires long { All (λ row. length row ≡ length simplex.now) rows.now }
+    requires small { AllByRecursion (AllByRecursion (λ value. value < lift.now.new)) rows.now }
+    ensures rows { IfOk result (λ found. found.items
+        ≡ tuples_covered (lift_seen lift.now) (rule_of simplex.now rows.now)) }
+    ensures within { IfOk result (λ found. length found.items ≤ most) }
+    ensures refused { IfErr result (λ fault. IsTooMany fault most
+        (length (tuples_covered (lift_seen lift.now) (rule_of simplex.now rows.now)))) }
+{
+    let _ = simplex.colours();
+    if *simplex == lift.corner {
+        rows_within(alloc, rows, most)
+    } else if is_part(simplex, &lift.simplex) {
+        face_rows(alloc, lift, simplex, rows, most)
+    } else {
+        choice_rows(alloc, &lift.sets, simplex, rows, most)
+    }
+}
+
+/// The rows themselves.
+fn rows_within(alloc: Global, rows: &[Row], most: usize) -> Result<Vec<Row>, RefineFault>
+    ensures rows { IfOk result (λ found. found.items ≡ rows.now) }
+    ensures within { IfOk result (λ found. length found.items ≤ most) }
+    ensures refused { IfErr result (λ fault. IsTooMany fault most (length rows.now)) }
+{
+    let mut found = Vec::new(alloc);
+    'rows: for row in rows {
+        push_within(&mut found, most, *row)?;
+    }
+    Ok(found)
+}
+
+/// What a face keeps of the tuples on sheets, where it has what it keeps without them.
+fn face_rows(
+    alloc: Global,
+    lift: &Lift<'_>,
+    face: &Simplex,
+    allowed: &[Row],
+    most: usize,
+) -> Result<Vec<Row>, RefineFault>
+    requires lift { IsLift lift.now }
+    requires ascending { in_order (slice_cmp nat_cmp) allowed.now ≡ allowed.now }
+    requires part { is_part face.now lift.now.simplex ≡ true }
+    ensures rows { IfOk result (λ found. found.items
+        ≡ lifts_on_face (lift_seen lift.now) (rule_of face.now allowed.now)) }
+    ensures within { IfOk result (λ found. length found.items ≤ most) }
+    ensures refused { IfErr result (λ fault. IsTooMany fault most
+        (length (lifts_on_face (lift_seen lift.now) (rule_of face.now allowed.now)))) }
+{
+    let _ = face.colours();
+    let mask = mask_of(alloc, face, &lift.simplex)?;
+    let mut found = Vec::new(alloc);
+    'rows: for row in lift.rows {
+        if has_row(allowed, &kept_row(&mask, row)) {
+            push_lifts(&mut found, lift, &mask, row, most)?;
+        }
+    }
+    Ok(found)
+}
+
+/// Adds what a mask keeps of a tuple on each sheet.
+fn push_lifts(
+    found: &mut Vec<Row>,
+    lift: &Lift<'_>,
+    mask: &[bool],
+    row: &Row,
+    most: usize,
+) -> Result<(), RefineFault>
+    requires lift { IsLift lift.now }
+    requires long { length row.now ≡ length lift.now.simplex }
+    requires small { AllByRecursion (λ value. value < lift.now.new) row.now }
+    requires flat { is_flat_on (lift_seen lift.now) row.now ≡ true }
+    requires each { length mask.now ≡ length row.now }
+    requires some { 0 < length (keep mask.now row.now) }
+    requires within { length found.old.items ≤ most }
+    ensures pushed { OnOk result (found.new.items
+        ≡ found.old.items ++ map (keep mask.now) (lifts (lift_seen lift.now) row.now)) }
+    ensures within { OnOk result (length found.new.items ≤ most) }
+    ensures refused { IfErr result (λ fault. IsTooMany fault most
+        (length found.old.items + length (lifts (lift_seen lift.now) row.now))) }
+{
+    'sheets: for sheet in 0..lift.round.cover.sheets {
+        push_within(found, most, kept_row(mask, &lifted(lift, row, sheet)))?;
+    }
+    Ok(())
+}
+
+/// A tuple with this sheet at the corner.
+fn lifted(lift: &Lift<'_>, row: &Row, sheet: u8) -> Row
+    requires lift { IsLift lift.now }
+    requires long { length row.now ≡ length lift.now.simplex }
+    requires small { AllByRecursion (λ value. value < lift.now.new) row.now }
+    requires flat { is_flat_on (lift_seen lift.now) row.now ≡ true }
+    requires sheet { sheet < lift.now.round.cover.now.sheets }
+    ensures { result ≡ lifted (lift_seen lift.now) row.now sheet }
+{
+    let mut values = [0; 4];
+    'places: for place in 0..row.size() {
+        let there = moved(&lift.round, row, lift.round.cover.corner, place, sheet);
+        values[usize::from(place)] = name_on(row.value(place), there as u32, lift.new);
+    }
+    Row::new(&values[..usize::from(row.size())])
+}
