@@ -12,7 +12,7 @@ use wf_refine::{RefineFault, first_rows};
 use wf_task::{Row, Task};
 
 /// Three processes go along a triangle that a torus lacks.
-const TORUS: &str = concat!(
+pub(crate) const TORUS: &str = concat!(
     r#"{"delta":[{"in":[[0,0]],"out":[[0]]},{"in":[[1,0]],"out":[[1]]},{"in":[[2,0]],"#,
     r#""out":[[1]]},{"in":[[0,0],[1,0]],"out":[[0,1]]},{"in":[[0,0],[2,0]],"out":[[0,1]]},"#,
     r#"{"in":[[1,0],[2,0]],"out":[[1,1]]},{"in":[[0,0],[1,0],[2,0]],"out":[[0,0,1],[0,0,2],[0,"#,

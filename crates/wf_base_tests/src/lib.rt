@@ -1,6 +1,6 @@
 //! Tests of the public calls of the crates that the engines stand on, but for the search: texts,
-//! simplices, tasks, refined tasks, views, reports, obstructions, balances and covers with their
-//! checkers, the finder, questions of branches, and the checkers of solvers' proofs.
+//! simplices, tasks, refined tasks, views, reports, obstructions, balances, covers and trees with
+//! their checkers, the finder, questions of branches, and the checkers of solvers' proofs.
 //!
 //! They stand in a crate of their own since a crate with tests is proved twice, with them and
 //! without; here the tests alone are proved, over the contracts of the crates below. What they add
@@ -42,5 +42,7 @@ mod tasks;
 mod texts;
 #[cfg(test)]
 mod tree_texts;
+#[cfg(test)]
+mod trees;
 #[cfg(test)]
 mod views;

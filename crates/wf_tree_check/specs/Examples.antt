@@ -1,12 +1,13 @@
 -- Worked examples, by computation: what the checker answers of the hourglass.
-use Rattle.std.specs.Prelude.{◌≡◌, List, [], ◌∷◌, ◌++◌, drop, take, None, Some, refl}
+use Rattle.std.specs.Prelude.{◌≡◌, List, [], ◌∷◌, ◌++◌, drop, replicate, take, None, Some, refl}
 use Rattle.wf_model.specs.ExampleTasks.{renaming_2_2}
 use Rattle.wf_trees.specs.KnownResults.{hourglass, hourglass_by_cases, hourglass_tree}
 use Rattle.wf_trees.specs.Trees.{Node, case_node, cover_node, nodes_of, split_node}
 use Rattle.wf_balance.specs.declared.fault.BalanceFault.TheVariants.{NotBalanced}
 use Rattle.wf_tree_check.specs.Judge.{fault_of}
 use Rattle.wf_cover.specs.declared.cover.CoverFault.TheVariants.{NoCorner, NoSheet, OneParticipant}
-use Rattle.wf_tree_check.specs.declared.fault.TreeFault.TheVariants.{Behind, NoBalance, NoCover, NoNode, NoSimplex, Symmetric}
+use Rattle.wf_tree_check.specs.declared.fault.Limit.TheVariants.{Depth, Names}
+use Rattle.wf_tree_check.specs.declared.fault.TreeFault.TheVariants.{Behind, NoBalance, NoCover, NoNode, NoSimplex, Symmetric, TooLarge}
 
 abbrev nodes : List Node
 nodes = nodes_of hourglass_tree
@@ -45,3 +46,14 @@ a_cover_without_a_corner = refl
 
 pub a_cover_without_a_sheet : fault_of (hourglass 1) (cover_node 6 0 0 [] ∷ []) ≡ Some (NoCover 0 NoSheet)
 a_cover_without_a_sheet = refl
+
+-- each sheet has three names: 255 in all, and 258
+pub a_cover_within_all_names : fault_of (hourglass 1) (cover_node 6 85 0 [] ∷ []) ≡ Some (NoNode 1)
+a_cover_within_all_names = refl
+
+pub a_cover_with_too_many_names : fault_of (hourglass 1) (cover_node 6 86 0 [] ∷ []) ≡ Some (TooLarge 0 Names)
+a_cover_with_too_many_names = refl
+
+-- the last of these nodes has no level left
+pub too_many_levels : fault_of (hourglass 1) (replicate 65 (case_node 0)) ≡ Some (TooLarge 64 Depth)
+too_many_levels = refl

@@ -13,7 +13,7 @@ most_nodes = 65536
 abbrev pub most_levels : ℕ
 most_levels = 64
 
--- the limit that a step is above which has this fault: too many names, or else too many tuples
+-- the limit that a step is above: names, or else tuples (by definition memory never runs out)
 abbrev pub limit_of : RefineFault → Limit
 limit_of TooManyNames = Names
 limit_of fault = Tuples

@@ -18,7 +18,7 @@ use wf_task::{Row, Task};
 use wf_tree_text::TreeNode;
 
 /// What is judged: the nodes of a tree, in preorder, of a task.
-#[derive(Clone, Copy, Drop)]
+#[derive(Drop)]
 pub(crate) struct Walk<'a> {
     /// What memory comes from.
     pub alloc: Global,
@@ -29,7 +29,7 @@ pub(crate) struct Walk<'a> {
 }
 
 /// The parts of what the task at hand allows on a simplex.
-#[derive(Clone, Copy, Drop)]
+#[derive(Drop)]
 pub(crate) struct Cases {
     /// The number of the simplex.
     pub simplex: usize,

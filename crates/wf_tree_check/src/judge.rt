@@ -26,9 +26,9 @@ pub const MOST_LEVELS: u32 = 64;
 /// Whether the nodes are those of an obstruction of the task, in preorder. Otherwise answers the
 /// first fault of the nodes, or that memory ran out.
 ///
-/// It keeps the tasks at hand of the nodes above one another, [`MOST_LEVELS`] at most and the task
-/// itself, and goes no deeper than these. For each case the components of its simplex are found
-/// anew, which takes no longer than to copy and to judge what the case allows.
+/// It keeps the task at hand of each node above the one that it judges, [`MOST_LEVELS`] and one at
+/// most, and calls itself no deeper. For each case it copies the tuples that are left, and finds the
+/// components of the simplex anew: a look-up for each value of a tuple there.
 ///
 /// # Errors
 ///
@@ -71,8 +71,8 @@ fn judge_all(alloc: Global, task: &Task, nodes: &[TreeNode]) -> Result<(), TreeF
 fn judge(walk: &Walk<'_>, rows: &[Vec<Row>], place: usize, levels: u32) -> Result<usize, TreeFault>
     requires { IsAtHand walk.now.task.now (map vec_items rows.now) }
     ensures { let nodes = nodes_seen walk.now.nodes.now in
-        Reaches nodes result
-        (judged levels (at_hand walk.now.task.now (map vec_items rows.now)) place (drop place nodes)) }
+        let t = at_hand walk.now.task.now (map vec_items rows.now) in
+        Reaches nodes result (judged levels t place (drop place nodes)) }
 {
     match enter(walk, rows, place, levels)? {
         Entered::Leaf => Ok(place + 1),
@@ -92,8 +92,8 @@ fn judge_each(
 ) -> Result<usize, TreeFault>
     requires at_hand { IsAtHand walk.now.task.now (map vec_items rows.now) }
     requires simplex { cases.simplex < length rows.now }
-    requires count { cases.count
-        ≡ length (components (rule_at (at_hand walk.now.task.now (map vec_items rows.now)) cases.simplex)) }
+    requires count { let t = at_hand walk.now.task.now (map vec_items rows.now) in
+        cases.count ≡ length (components (rule_at t cases.simplex)) }
     ensures { let nodes = nodes_seen walk.now.nodes.now in
         let t = at_hand walk.now.task.now (map vec_items rows.now) in
         Reaches nodes result (cases_judged levels t cases.simplex
