@@ -13,3 +13,4 @@ pub mod ModelsAreTrue
 pub mod RefutationsAreTrue
 pub mod HintBytes
 pub mod HintCounts
+pub mod Refusals

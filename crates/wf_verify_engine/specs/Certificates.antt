@@ -13,7 +13,6 @@ use Rattle.wf_verify_engine.specs.declared.outcome.Accepted.{Accepted}
 use Rattle.wf_verify_engine.specs.declared.outcome.Verified.{Verified}
 use Rattle.wf_verify_engine.specs.declared.outcome.Verified.TheVariants as verified
 use Rattle.wf_run.specs.declared.fault.RunFault.{RunFault}
-use Rattle.wf_run.specs.declared.fault.RunFault.TheVariants as run
 
 -- ---- an obstruction
 

@@ -7,7 +7,7 @@ use Rattle.wf_io.specs.Texts.{Wrote}
 use Rattle.wf_verify_engine.specs.declared.outcome.Accepted.{Accepted}
 use Rattle.wf_verify_engine.specs.declared.outcome.Accepted.TheVariants as accepted
 use Rattle.wf_run.specs.declared.fault.RunFault.{RunFault}
-use Rattle.wf_run.specs.declared.fault.RunFault.TheVariants.{OutOfMemory, Write}
+use Rattle.wf_run.specs.declared.fault.RunFault.TheVariants.{OutOfMemory}
 use Rattle.wf_verify_engine.specs.Verify.{ChecksText, Decides, Verifies}
 use Rattle.wf_verify_engine.specs.Certificates.{VerifiesCertificate}
 use Rattle.wf_verify_engine.specs.declared.outcome.Verified.{Verified}

@@ -52,7 +52,10 @@ fn told(nodes: &[TreeNode], fault: TreeFault) -> RunFault
     requires few { length (lines_of_nodes (nodes_seen nodes.now)) ≤ most_bytes }
     ensures { result ≡ told (nodes_seen nodes.now) fault }
 {
-    told_at(line_of(nodes, node_of(fault) as usize, entry_of(fault)), fault)
+    told_at(
+        line_of(nodes, node_of(fault) as usize, entry_of(fault)),
+        fault,
+    )
 }
 
 /// The place of the node that a fault is about.
