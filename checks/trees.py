@@ -117,7 +117,8 @@ def changed(choose, nodes, simplices):
     elif how < 5 or not having:
         number_changed(choose, nodes[at].numbers, simplices)
     else:
-        node = choose.choice(having)
+        covers = [it for it in having if it.name == "cover"]
+        node = choose.choice(covers if covers and choose.random() < 0.5 else having)
         place = choose.randrange(len(node.entries))
         if how == 5:
             del node.entries[place]

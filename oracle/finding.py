@@ -185,6 +185,15 @@ def after(hand, steps):
         return None
 
 
+def next_case(hand):
+    """The simplex with the fewest parts, if these are several. In a symmetric task one part is a case too if a simplex that is alike
+    allows more. None if no case changes anything."""
+    for many, number in sorted((len(obstructions.components(hand, number)), number) for number in range(len(hand.inputs))):
+        if many > 1 or hand.symmetric and next(obstructions.cases(hand, number)).allowed != hand.allowed:
+            return number
+    return None
+
+
 def turns(tuples, many):
     """Moves that change two sheets, such that each tuple is flat. Up to the names of sheets there are no others."""
     edges = sorted({(i, it[i], j, it[j]) for it in tuples for i, j in itertools.combinations(range(many), 2)})
@@ -251,20 +260,18 @@ class Finder:
         return steps + self.leaf(after(hand, steps))
 
     def by_cases(self, hand, covers, room):
-        """The trees of the cases of a simplex with the fewest, more than one if they change nothing; or a cover."""
-        ways = [(len(obstructions.components(hand, number)), number) for number in range(len(hand.inputs))]
-        for many, number in sorted(ways):
-            below = list(obstructions.cases(hand, number)) if many == 1 and hand.symmetric or many > 1 else []
-            if many > 1 or below and below[0].allowed != hand.allowed:
-                trees = [node("case", number)]
-                for task in below:
-                    found = self.tree(task, covers, room - 1)
-                    if not found:
-                        return None
-                    trees += found
-                return trees
-        self.left = hand
-        return self.by_covers(hand, covers, room) if covers and not hand.symmetric else None
+        """The trees of the cases of a simplex; or where no case is left, a cover."""
+        number = next_case(hand)
+        if number is None:
+            self.left = hand
+            return self.by_covers(hand, covers, room) if covers and not hand.symmetric else None
+        trees = [node("case", number)]
+        for task in obstructions.cases(hand, number):
+            found = self.tree(task, covers, room - 1)
+            if not found:
+                return None
+            trees += found
+        return trees
 
     def by_covers(self, hand, covers, room):
         """A tree below a cover of two sheets."""

@@ -7,8 +7,8 @@ with a report of none that has no lines, or why it can't read the report, and en
 opened, or the task is refused. Whether a map is the least one it looks at where the report has the lines for it.
 
 The report may be an obstruction, which obstructions.py judges. Then it says `holds: none at every number of rounds`, or what is
-wrong. It also gives random values to the points after 0, 1 and 2 rounds, and counts the executions as each balance says, if there
-are at most 20,000 of them."""
+wrong. It also gives random values to the points after 0, 1 and 2 rounds, and counts the executions as each balance says, if that
+is to count at most 20,000."""
 import argparse
 import itertools
 import random
@@ -145,8 +145,10 @@ def wrong_count(task, balances):
     the equations, add up to the balance's sum. Where executions on two simplices decide alike, those on one are counted."""
     choose = random.Random(1)
     for rounds in range(3):
-        made = Complex(task, rounds) if executions_of(task, rounds) <= MOST_COUNTED else None
-        for it in balances if made else []:
+        if executions_of(task, rounds) * len(balances) > MOST_COUNTED:
+            break
+        made = Complex(task, rounds) if balances else None
+        for it in balances:
             alike, values = {it.hand.kin(simplex): simplex for simplex in it.hand.inputs}, it.hand.values()
             signed = [(s, sign, points) for (s, sign), (_, points, _) in zip(made.signed, made.executions) if alike[it.hand.kin(s)] == s]
             for _ in range(5):

@@ -121,9 +121,10 @@ def of_report(task: Task, text: str, choice: Choice) -> Picture:
 
 def of_obstruction(task: Task, text: str, asked: argparse.Namespace, choice: Choice) -> Picture:
     """The picture of an obstruction that was accepted, after one round if none are asked for."""
-    weights, rounds = weights_of(rules_of(task), obstruction_of(task, text)), 1 if asked.rounds is None else asked.rounds
-    if weights is None:
+    found, rounds = weights_of(rules_of(task), obstruction_of(task, text)), 1 if asked.rounds is None else asked.rounds
+    if found is None:
         raise Stopped(f"{asked.report} has cases, splits or covers, and an obstruction is drawn if it is one balance")
+    weights = found
     scene = pictures.of_obstruction(task, rounds, weights, asked.seed, asked.any, choice)
     made = pictures.part_of(task, rounds, choice, counts=True).made
     return Picture(scene, lambda: page.of_weights(made, weights, scene.count))
