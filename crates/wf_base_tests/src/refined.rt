@@ -117,7 +117,7 @@ fn a_case_leaves_one_part(rt: HostRuntime) -> Result<(), Fail> {
 }
 
 /// The hourglass: two triangles on one edge, and a third one on one of their other vertices.
-const HOURGLASS: &str = concat!(
+pub(crate) const HOURGLASS: &str = concat!(
     r#"{"delta":[{"in":[[0,0]],"out":[[0]]},{"in":[[1,0]],"out":[[1]]},{"in":[[2,0]],"#,
     r#""out":[[1]]},{"in":[[0,0],[1,0]],"out":[[0,2],[1,1],[1,2]]},{"in":[[0,0],[2,0]],"#,
     r#""out":[[0,2],[1,1],[1,2]]},{"in":[[1,0],[2,0]],"out":[[1,1]]},"#,

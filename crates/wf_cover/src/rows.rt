@@ -48,7 +48,8 @@ pub fn covered_rows(
 ) -> Result<Vec<Vec<Row>>, RefineFault>
     requires at_hand { IsAtHand task.now (map vec_items rows.now) }
     requires simplex { cover.now.simplex < length rows.now }
-    requires faultless { cover_fault (cover_seen (at_hand task.now (map vec_items rows.now)) cover.now) ≡ None }
+    requires faultless { let t = at_hand task.now (map vec_items rows.now) in
+        cover_fault (cover_seen t cover.now) ≡ None }
     ensures covered { IfOk result (λ found.
         let t = at_hand task.now (map vec_items rows.now) in
         at_hand task.now (map vec_items found.items) ≡ covered (cover_seen t cover.now) t) }

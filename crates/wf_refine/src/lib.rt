@@ -10,8 +10,8 @@
 //!   [`new_name`]: the first name that no tuple has.
 //! - [`ascending`]: rows in order, each once.
 //! - For the steps that take values apart, here and in the crates above: [`choice_rows`] and tables
-//!   of [`SETS`] sets ([`values_alone`], [`set_place`]); faces ([`is_part`], [`mask_of`], [`kept_row`],
-//!   [`has_row`], [`vertex_at`]); and [`push_within`], which keeps a limit.
+//!   of [`SETS`] sets ([`values_alone`], [`set_place`]); faces ([`is_part`], [`mask_of`],
+//!   [`kept_row`], [`has_row`], [`vertex_at`]); and [`push_within`], which keeps a limit.
 //! - [`RefineFault`]: why a step is refused. [`MOST_TUPLES`], [`MOST_NAME`]: the limits.
 #![tactic(auto)]
 
