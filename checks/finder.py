@@ -23,7 +23,7 @@ KEPT = {
     "modulo-4-symmetric": [3, 4, 8, 9],
     "modulo-9-symmetric": [2, 4, 8, 9],
 }
-NONE_FOUND = re.compile(r"no obstruction (?:(for any modulus)|modulo (\d+(?:, \d+)*))\n")
+NONE_FOUND = re.compile(r"no obstruction by splits, cases and balances (?:(of any modulus)|modulo (\d+(?:, \d+)*))\n")
 # a larger modulus is not asked of oracle/finding.py in a case
 LARGEST = 9
 
@@ -77,7 +77,7 @@ def wrong_modulus(task, modulus, found, ran):
     """What is wrong with what the program says of a task and a modulus, or None."""
     if found or ran.returncode == 0:
         return wrong_found(task, modulus, ran)
-    right = (ran.returncode, ran.stdout, ran.stderr) == (1, b"", f"no obstruction modulo {modulus}\n".encode())
+    right = (ran.returncode, ran.stdout, ran.stderr) == (1, b"", f"no obstruction by splits, cases and balances modulo {modulus}\n".encode())
     return None if right else f"there is none: {shown(ran)}"
 
 

@@ -45,7 +45,7 @@ NOT_ASKED = "second opinion not asked"
 # the rows that a SAT solver answered, and how what it wrote is kept
 ANSWERED = {"none, by a proof": "drat", "map, by a model": "model"}
 # what `wfcheck obstruction` says if it finds none, and of a task with a first block
-NONE_FOUND = re.compile(r"no obstruction (for any modulus|modulo [\d, ]+)\n")
+NONE_FOUND = re.compile(r"no obstruction by splits, cases and balances (of any modulus|modulo [\d, ]+)\n")
 FIRST_BLOCK = "wfcheck: 50 FirstBlock\n"
 # whether what `wfcheck obstruction` writes has to be the very bytes that are kept
 SAME_BYTES = True

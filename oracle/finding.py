@@ -8,9 +8,9 @@ elimination finds multipliers with which these add up to a number that is not 0,
 the values of simplices apart until nothing changes. Then it goes through the cases of a simplex that has the fewest. Neither loses
 anything: a task with a balance has one in each case too. With --covers N it tries covers of two sheets last, at most N above each other.
 
-It answers as `wfcheck obstruction` does: it writes the obstruction, and ends with status 0; or it says `no obstruction modulo M`, or
-`no obstruction for any modulus`, and ends with status 1. It says that of a case with nothing left to take apart, where whole numbers
-solve all equations: cases, splits and balances show nothing then, and covers may. Status 2: the words or the task are refused."""
+It answers as `wfcheck obstruction` does: it writes the obstruction, and ends with status 0; or it says what it tried, and ends with
+status 1: `no obstruction by splits, cases and balances modulo M`, or `.. of any modulus`. It says that of a case with nothing left to
+take apart, where whole numbers solve all equations: covers may show something then. Status 2: the words or the task are refused."""
 import argparse
 import collections
 import itertools
@@ -344,7 +344,8 @@ def main():
     found = find(task, moduli, asked.covers)
     if not found:
         is_whole = asked.modulus is None and not asked.covers and has_none(task)
-        print(f"no obstruction {'for any modulus' if is_whole else f'modulo {str(moduli)[1:-1]}'}", file=sys.stderr)
+        tried = f"{'covers, ' if asked.covers else ''}splits, cases and balances"
+        print(f"no obstruction by {tried} {'of any modulus' if is_whole else f'modulo {str(moduli)[1:-1]}'}", file=sys.stderr)
         return 1
     print(text_of(task, found), end="")
     return 0

@@ -45,7 +45,7 @@ class WithoutProgram(Case):
             self.assertEqual((status, text.split("\n")[3].split(" ")[:2]), (0, ["balance", str(modulus)]))
             (self.folder / "found").write_text(text)
             self.assertEqual(self.python(ROOT / "oracle/second_opinion.py", file, self.folder / "found")[0], 0)
-        self.assertEqual(self.python(ROOT / "oracle/finding.py", TASKS / "renaming-2-names-3.json"), (1, "no obstruction for any modulus\n"))
+        self.assertEqual(self.python(ROOT / "oracle/finding.py", TASKS / "renaming-2-names-3.json"), (1, "no obstruction by splits, cases and balances of any modulus\n"))
 
     def test_words_that_mean_nothing(self):
         status, told = self.python("-m", "wfcheck")

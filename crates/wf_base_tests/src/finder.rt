@@ -54,8 +54,11 @@ fn consensus(rt: HostRuntime) -> Result<(), Fail> {
     let problem = problem_of(alloc, &task)?;
     let found = find_balance(alloc, &problem, 2, &Silent)?.expect(&rt, "a balance");
     assert_eq!(rt; found.sum, 1);
-    let places: Vec<(u32, u8)> =
-        found.multipliers.iter().map(|one| (one.simplex, one.place)).collect(alloc)?;
+    let places: Vec<(u32, u8)> = found
+        .multipliers
+        .iter()
+        .map(|one| (one.simplex, one.place))
+        .collect(alloc)?;
     assert_eq!(rt; places.as_slice(), [(1, 0), (2, 0), (2, 1)].as_slice());
     let lone = found.multipliers.iter().map(|one| one.others.size());
     let sizes: Vec<u8> = lone.collect(alloc)?;

@@ -189,7 +189,10 @@ fn faults_of_a_node(rt: HostRuntime) -> Result<(), Fail> {
         let symmetric = TreeFault::Symmetric { node };
         assert_eq!(rt; judged(alloc, RENAMING_2_2, step)?, Err(symmetric));
     }
-    assert_eq!(rt; judged(alloc, FIRST_BLOCK, "case 9\n")?, Err(TreeFault::FirstBlock));
+    assert_eq!(rt;
+        judged(alloc, FIRST_BLOCK, "case 9\n")?,
+        Err(TreeFault::FirstBlock)
+    );
     Ok(())
 }
 
@@ -235,6 +238,9 @@ fn steps_are_limited(rt: HostRuntime) -> Result<(), Fail> {
         node: 0,
         limit: Limit::Tuples,
     };
-    assert_eq!(rt; judged(alloc, TWO_TRIANGLES, "cover 9 100 0\n")?, Err(tuples));
+    assert_eq!(rt;
+        judged(alloc, TWO_TRIANGLES, "cover 9 100 0\n")?,
+        Err(tuples)
+    );
     Ok(())
 }

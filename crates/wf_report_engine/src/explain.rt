@@ -77,7 +77,10 @@ fn tell_obstruction(alloc: Global, task: &Task, obstruction: &Obstruction) -> An
     ensures { TellsObstruction task.now (obstruction_seen obstruction.now) (answered result) }
 {
     judge_obstruction(alloc, task, obstruction)?;
-    Ok(((), write_obstruction_argument(alloc, task, &obstruction.nodes)?))
+    Ok((
+        (),
+        write_obstruction_argument(alloc, task, &obstruction.nodes)?,
+    ))
 }
 
 /// The report of a text in words, if it is about the task.
