@@ -47,8 +47,8 @@ ANSWERED = {"none, by a proof": "drat", "map, by a model": "model"}
 # what `wfcheck obstruction` says if it finds none, and of a task with a first block
 NONE_FOUND = re.compile(r"no obstruction by splits, cases and balances (of any modulus|modulo [\d, ]+)\n")
 FIRST_BLOCK = "wfcheck: 50 FirstBlock\n"
-# whether what `wfcheck obstruction` writes has to be the very bytes that are kept
-SAME_BYTES = True
+# the word of a node that the finder doesn't make: what needs one is kept, and found by oracle/finding.py alone
+NOT_FOUND = "cover"
 
 
 def wrong_task(name, its_rows, row):
@@ -64,12 +64,13 @@ def wrong_task(name, its_rows, row):
     if not row:
         return wrong_silence(path, found), found.stderr.strip()
     kept = file.read_text()
-    if (found.returncode, found.stderr) != (0, "") or SAME_BYTES and found.stdout != kept:
-        return f"`wfcheck obstruction`: status {found.returncode}, {found.stderr or 'another obstruction than the one that is kept'}", ""
+    is_found = NOT_FOUND not in row.tree
     if numbers_of(kept) != row[1:]:
         return f"the table says {row[1:]}, and the obstruction has {numbers_of(kept)}", ""
-    faults = [wrong_obstruction(path, text) for text in dict.fromkeys([kept, found.stdout])]
-    return next(filter(None, faults), None), f"found modulo {row.modulus} with {row.multipliers} multipliers, accepted, holds"
+    if is_found and (found.returncode, found.stdout, found.stderr) != (0, kept, ""):
+        return f"`wfcheck obstruction`: status {found.returncode}, {found.stderr or 'another obstruction than the one that is kept'}", ""
+    fault = wrong_obstruction(path, kept) or (None if is_found else wrong_silence(path, found))
+    return fault, f"{'found' if is_found else 'kept'} modulo {row.modulus} with {row.multipliers} multipliers, accepted, holds"
 
 
 def wrong_silence(path, found):

@@ -4,7 +4,7 @@ use std::alloc::Global;
 use std::cell::Cell;
 use std::test::Fail;
 use wf_examples::{CONSENSUS_2, RENAMING_2_3};
-use wf_finder::{FinderFault, Listener, Problem, Silent, find_balance, has_integer_solution};
+use wf_finder::{FinderFault, Listener, Silent, TuplesByClass, find_balance, has_integer_solution};
 use wf_refine::first_rows;
 use wf_task::Task;
 
@@ -40,9 +40,9 @@ impl Listener for Told {
 }
 
 /// What the finder knows of a task.
-fn problem_of(alloc: Global, task: &Task) -> Result<Problem, FinderFault> {
+fn problem_of(alloc: Global, task: &Task) -> Result<TuplesByClass, FinderFault> {
     let rows = first_rows(alloc, task)?;
-    Problem::of(alloc, task, &rows)
+    TuplesByClass::of(alloc, task, &rows)
 }
 
 /// Process 1 decides 1 alone, so it does as often with process 0. But then process 0 decides 1 as

@@ -1,5 +1,5 @@
--- Rules are listed, and what holds of each simplex of a complex holds of each part of one that isn't
--- empty.
+-- Rules are listed, and what holds of each simplex of a complex holds of each part of one that
+-- isn't empty.
 use Rattle.std.proofs.Common.{◌≡◌, ℕ, ◌<◌, Bool, true, false, List, [], ◌∷◌, map, filter, flat_map, length, Contains, refl, sym, subst, ◌∙◌, inl, inr}
 use Rattle.std.specs.List.{AllByRecursion}
 use Rattle.std.specs.declared.cmp.Ordering.{Ordering}

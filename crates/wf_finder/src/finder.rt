@@ -2,7 +2,7 @@
 
 use crate::fault::FinderFault;
 use crate::listener::Listener;
-use crate::problem::Problem;
+use crate::problem::TuplesByClass;
 use crate::system::solve;
 use std::alloc::Global;
 use wf_balance::Balance;
@@ -20,7 +20,7 @@ use wf_elimination::prime_powers;
 /// The finder gave up at one of its limits, or memory ran out.
 pub fn find_balance<L: Listener>(
     alloc: Global,
-    problem: &Problem,
+    problem: &TuplesByClass,
     modulus: u32,
     listener: &L,
 ) -> Result<Option<Balance>, FinderFault> {

@@ -3,7 +3,7 @@
 use crate::equations::Equations;
 use crate::fault::{FinderFault, number};
 use crate::listener::Listener;
-use crate::problem::Problem;
+use crate::problem::TuplesByClass;
 use crate::system::solution;
 use std::alloc::Global;
 use wf_elimination::{Ring, prime_powers};
@@ -26,7 +26,7 @@ const CONSTANT: i64 = 1;
 /// The finder gave up at one of its limits, or memory ran out.
 pub fn has_integer_solution<L: Listener>(
     alloc: Global,
-    problem: &Problem,
+    problem: &TuplesByClass,
     listener: &L,
 ) -> Result<bool, FinderFault> {
     let ring = large_prime(alloc)?;
@@ -53,7 +53,7 @@ struct Solution {
 
 impl Solution {
     /// Whether the constant is 1 and each equation holds: also those that follow from others.
-    fn holds(&self, alloc: Global, problem: &Problem) -> Result<bool, FinderFault> {
+    fn holds(&self, alloc: Global, problem: &TuplesByClass) -> Result<bool, FinderFault> {
         if self.value(0)? != CONSTANT {
             return Ok(false);
         }
@@ -69,7 +69,7 @@ impl Solution {
     /// Whether each equation of a class holds.
     fn holds_at(
         &self,
-        problem: &Problem,
+        problem: &TuplesByClass,
         number: u32,
         equations: &mut Equations,
     ) -> Result<bool, FinderFault> {

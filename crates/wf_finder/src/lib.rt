@@ -4,7 +4,7 @@
 //! may have one all the same: that it finds one wherever there is one modulo the number is tested.
 //! If it gave up, it says at which limit.
 //!
-//! - [`Problem`]: what the finder knows of a task at hand.
+//! - [`TuplesByClass`]: what the finder knows of a task at hand.
 //! - [`find_balance`]: looks for a balance modulo a number.
 //! - [`find_tree`]: looks for a tree of a task, as a [`TreeSearch`] says; [`FoundTree`],
 //!   [`StoppedAt`]: what that comes to.
@@ -32,6 +32,6 @@ pub use fault::{FinderFault, MOST_EQUATIONS};
 pub use finder::find_balance;
 pub use integers::has_integer_solution;
 pub use listener::{Listener, Silent};
-pub use problem::Problem;
+pub use problem::TuplesByClass;
 pub use trees::{FoundTree, MOST_LEVELS, MOST_NODES, StoppedAt, TreeSearch, find_tree};
 pub use wf_elimination::{MOST_ENTRIES, MOST_STEPS, MOST_UNKNOWNS};

@@ -8,20 +8,20 @@ use wf_task::{Row, Task};
 /// What the finder knows of a task at hand: which input simplices it does not tell apart, and which
 /// tuples these allow.
 #[derive(Drop)]
-pub struct Problem {
+pub struct TuplesByClass {
     pub(crate) classes: Classes,
     // the least value of the tuples, or 0
     pub(crate) least: u64,
 }
 
-impl Problem {
+impl TuplesByClass {
     /// The problem of a task at hand: of the task with these rows as the tuples of its input
     /// simplices, in order.
     ///
     /// # Errors
     /// There is not one list of rows for each input simplex, or memory ran out.
-    pub fn of(alloc: Global, task: &Task, rows: &[Vec<Row>]) -> Result<Problem, FinderFault> {
-        Ok(Problem {
+    pub fn of(alloc: Global, task: &Task, rows: &[Vec<Row>]) -> Result<TuplesByClass, FinderFault> {
+        Ok(TuplesByClass {
             classes: Classes::of(alloc, task, rows)?,
             least: least(rows),
         })

@@ -3,8 +3,8 @@
 //! There is an unknown for each tuple that a simplex of a class allows, and one for the empty
 //! face, the constant. For each class, each place and each list of values at the other places there
 //! is an equation: the unknowns whose tuples have these values there add up to the unknown of the
-//! class without the place. If such equations contradict one another, their multipliers are a balance:
-//! in the sum each unknown has the factor 0, and the constant has not.
+//! class without the place. If such equations contradict one another, their multipliers are a
+//! balance: in the sum each unknown has the factor 0, and the constant has not.
 
 use crate::classes::Class;
 use crate::digits::{behind, number_at};
@@ -12,7 +12,7 @@ use crate::equations::Equations;
 use crate::fault::{FinderFault, judge_equations, number};
 use crate::listener::Listener;
 use crate::placed::{FoundBalance, Placed, add_up};
-use crate::problem::Problem;
+use crate::problem::TuplesByClass;
 use std::alloc::Global;
 use wf_elimination::{Contradiction, Elimination, Multiple, Ring};
 
@@ -42,11 +42,11 @@ struct System {
     equations: Equations,
 }
 
-/// The balance that the system of a task gives modulo a prime power, if its equations contradict one
-/// another.
+/// The balance that the system of a task gives modulo a prime power, if its equations contradict
+/// one another.
 pub(crate) fn solve<L: Listener>(
     alloc: Global,
-    problem: &Problem,
+    problem: &TuplesByClass,
     ring: Ring,
     listener: &L,
 ) -> Result<Option<FoundBalance>, FinderFault> {
@@ -57,11 +57,11 @@ pub(crate) fn solve<L: Listener>(
     }
 }
 
-/// A value below the modulus for each unknown of the system of a task, if its equations don't contradict
-/// one another modulo a prime.
+/// A value below the modulus for each unknown of the system of a task, if its equations don't
+/// contradict one another modulo a prime.
 pub(crate) fn solution<L: Listener>(
     alloc: Global,
-    problem: &Problem,
+    problem: &TuplesByClass,
     ring: Ring,
     listener: &L,
 ) -> Result<Option<Vec<u32>>, FinderFault> {
@@ -74,7 +74,7 @@ pub(crate) fn solution<L: Listener>(
 
 impl System {
     /// The unknowns of the system, and no equation.
-    fn of(alloc: Global, problem: &Problem, ring: Ring) -> Result<System, FinderFault> {
+    fn of(alloc: Global, problem: &TuplesByClass, ring: Ring) -> Result<System, FinderFault> {
         let mut system = System {
             ring,
             minus: ring.negative(1),
@@ -88,7 +88,7 @@ impl System {
     }
 
     /// Adds an unknown for each tuple of each class.
-    fn add_unknowns(&mut self, problem: &Problem) -> Result<(), FinderFault> {
+    fn add_unknowns(&mut self, problem: &TuplesByClass) -> Result<(), FinderFault> {
         for place in 0..problem.classes.count() {
             let class = problem.classes.class(number(place)?)?;
             self.add_unknowns_of(class)?;
@@ -107,7 +107,7 @@ impl System {
     /// Takes in the equations up to a contradiction, and tells the listener.
     fn run<L: Listener>(
         &mut self,
-        problem: &Problem,
+        problem: &TuplesByClass,
         listener: &L,
     ) -> Result<Option<Contradiction>, FinderFault> {
         let modulus = self.ring.modulus();
@@ -120,7 +120,7 @@ impl System {
     /// Takes in the equations class by class, up to a contradiction.
     fn contradiction<L: Listener>(
         &mut self,
-        problem: &Problem,
+        problem: &TuplesByClass,
         listener: &L,
     ) -> Result<Option<Contradiction>, FinderFault> {
         for place in 1..problem.classes.count() {
@@ -135,7 +135,7 @@ impl System {
     /// Takes in the equations of a class.
     fn take_in_class<L: Listener>(
         &mut self,
-        problem: &Problem,
+        problem: &TuplesByClass,
         number: u32,
         listener: &L,
     ) -> Result<Option<Contradiction>, FinderFault> {
@@ -204,7 +204,7 @@ impl System {
     fn answer(
         &self,
         alloc: Global,
-        problem: &Problem,
+        problem: &TuplesByClass,
         found: Contradiction,
     ) -> Result<FoundBalance, FinderFault> {
         let mut placed = Vec::new(alloc);
@@ -218,7 +218,7 @@ impl System {
     }
 
     /// The multiplier that says that an equation counts so many times.
-    fn placed(&self, problem: &Problem, multiple: Multiple) -> Result<Placed, FinderFault> {
+    fn placed(&self, problem: &TuplesByClass, multiple: Multiple) -> Result<Placed, FinderFault> {
         let Some(equation) = self.taken.get(multiple.equation as usize) else {
             return Err(FinderFault::Internal);
         };

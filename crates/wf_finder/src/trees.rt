@@ -7,7 +7,7 @@ use crate::fault::{FinderFault, number};
 use crate::finder::find_balance;
 use crate::integers::has_integer_solution;
 use crate::listener::Listener;
-use crate::problem::Problem;
+use crate::problem::TuplesByClass;
 use std::alloc::Global;
 use wf_balance::Balance;
 use wf_refine::{
@@ -160,7 +160,7 @@ fn branch<L: Listener>(
 fn grow_cases<L: Listener>(
     search: &TreeSearch<'_, L>,
     rows: &[Vec<Row>],
-    cases: Cases,
+    cases: FewestCases,
     levels: u32,
     nodes: &mut Vec<TreeNode>,
 ) -> Result<Grown, StoppedAt>
@@ -226,7 +226,7 @@ fn look_for_balance<L: Listener>(
     search: &TreeSearch<'_, L>,
     rows: &[Vec<Row>],
 ) -> Result<Leaf, StoppedAt> {
-    let problem = match Problem::of(search.alloc, search.task, rows) {
+    let problem = match TuplesByClass::of(search.alloc, search.task, rows) {
         Ok(problem) => problem,
         Err(fault) => return Err(stopped(fault)),
     };
@@ -245,7 +245,7 @@ fn look_for_balance<L: Listener>(
 /// Looks for a balance modulo a number.
 fn modulo<L: Listener>(
     search: &TreeSearch<'_, L>,
-    problem: &Problem,
+    problem: &TuplesByClass,
     modulus: u32,
 ) -> Result<Option<Balance>, StoppedAt> {
     match find_balance(search.alloc, problem, modulus, search.listener) {
@@ -259,7 +259,10 @@ fn modulo<L: Listener>(
 
 /// Whether the integers show that no modulus has a balance. A limit that is met here is no fault:
 /// it is only not known then.
-fn has_none<L: Listener>(search: &TreeSearch<'_, L>, problem: &Problem) -> Result<bool, StoppedAt> {
+fn has_none<L: Listener>(
+    search: &TreeSearch<'_, L>,
+    problem: &TuplesByClass,
+) -> Result<bool, StoppedAt> {
     match has_integer_solution(search.alloc, problem, search.listener) {
         Ok(has_solution) => Ok(has_solution),
         Err(FinderFault::OutOfMemory) => Err(out_of_memory()),
@@ -381,7 +384,7 @@ fn tells_apart<L: Listener>(
 
 /// The parts of what a task at hand allows on a simplex.
 #[derive(Clone, Copy, Drop)]
-struct Cases {
+struct FewestCases {
     simplex: usize,
     count: u32,
 }
@@ -390,22 +393,22 @@ struct Cases {
 fn fewest_cases<L: Listener>(
     search: &TreeSearch<'_, L>,
     rows: &[Vec<Row>],
-) -> Result<Option<Cases>, StoppedAt>
+) -> Result<Option<FewestCases>, StoppedAt>
     requires { IsAtHand search.now.task.now (map vec_items rows.now) }
     ensures { IfOk result (λ cases. IfSome cases (λ found. found.simplex < length rows.now)) }
 {
-    let mut fewest: Option<Cases> = None;
+    let mut fewest: Option<FewestCases> = None;
     'simplices: for simplex in 0..rows.len() {
         let count = components(search, rows, simplex)?;
         if count > 1 && is_fewer(count, fewest) {
-            fewest = Some(Cases { simplex, count });
+            fewest = Some(FewestCases { simplex, count });
         }
     }
     Ok(fewest)
 }
 
 /// Whether so many are fewer than those of the cases found so far.
-fn is_fewer(count: u32, fewest: Option<Cases>) -> bool {
+fn is_fewer(count: u32, fewest: Option<FewestCases>) -> bool {
     match fewest {
         Some(cases) => count < cases.count,
         None => true,

@@ -19,8 +19,8 @@ use wf_tree_text::{Obstruction, TreeNode, write_obstruction};
 use wf_verify_engine::{judge_obstruction, obstruction_of};
 
 /// Reads a task to the reader's end, and looks for an obstruction of the task: with balances modulo
-/// a number if one is asked for, or else modulo the first of [`MODULI`] that has one. Writes what is
-/// found, and otherwise nothing.
+/// a number if one is asked for, or else modulo the first of [`MODULI`] that has one. Writes what
+/// is found, and otherwise nothing.
 ///
 /// What is written is an obstruction of the task. So no function on the views is a decision map,
 /// after any number of rounds. If none is found or the search gave up, nothing is proved of the

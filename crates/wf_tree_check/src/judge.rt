@@ -27,8 +27,8 @@ pub const MOST_LEVELS: u32 = 64;
 /// first fault of the nodes, or that memory ran out.
 ///
 /// It keeps the task at hand of each node above the one that it judges, [`MOST_LEVELS`] and one at
-/// most, and calls itself no deeper. For each case it copies the tuples that are left, and finds the
-/// components of the simplex anew: a look-up for each value of a tuple there.
+/// most, and calls itself no deeper. For each case it copies the tuples that are left, and finds
+/// the components of the simplex anew: a look-up for each value of a tuple there.
 ///
 /// # Errors
 ///
