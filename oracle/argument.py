@@ -2,7 +2,7 @@
 """argument.py TASK REPORT: a report of none as an argument that a person can read, as `wfcheck explain` writes it. REPORT may also
 be the text of an obstruction.
 
-It is written from the definitions in crates/wf_argument/specs, crates/wf_argument_words/specs and crates/wf_obstruction_words/specs,
+It is written from the definitions in crates/wf_argument/specs, crates/wf_argument_words/specs and crates/wf_tree_words/specs,
 and shares no code with the program. It takes the report as it is: `second_opinion.py` says whether it holds."""
 import collections
 import itertools
@@ -205,53 +205,182 @@ def text_of(task, report):
     return "".join(line + "\n" for line in lines)
 
 
-def obstruction_of(text):
-    """The numbers of the header by their names, and the weighted tuples: a simplex, a weight and the values."""
-    header, tuples, simplex = {}, [], None
-    for line in text.split("\n")[1:-2]:
-        name, *words = line.split(" ")
-        numbers = [int(word) for word in words]
-        if name == "s":
-            simplex = numbers[0]
-        elif name == "t":
-            tuples.append((simplex, numbers[0], tuple(numbers[1:])))
+def nodes_of(text):
+    """The nodes of an obstruction in preorder: a word, its numbers, and the numbers of each line behind that belongs to it."""
+    nodes = []
+    for line in text.split("\n")[3:-2]:
+        word, *numbers = line.split(" ")
+        numbers = tuple(int(it) for it in numbers)
+        if word in ("m", "p"):
+            nodes[-1][2].append(numbers)
         else:
-            header[name] = numbers[0]
-    return header, tuples
+            nodes.append((word, numbers, []))
+    return nodes
 
 
-def decisions_text(values, tuples):
-    """What is decided: one of these tuples, which are different and ascend."""
-    first, told = tuples[0], [" ".join(map(str, values)) for values in tuples]
-    if len(first) >= 2 and tuples == [(value,) * len(first) for value in values]:
-        return "all decide the same"
-    if len(first) >= 3 and tuples == list(itertools.permutations(first)):
-        return f"decide {listed([str(x) for x in first], ', ', ' and ')}, one each"
+def tuples_text(tuples):
+    told = [" ".join(map(str, values)) for values in tuples]
     if len(told) <= MOST_TUPLES:
-        return f"decide {any_of(told)}"
-    return f"decide {', '.join(told[:MOST_TUPLES])}, or one of {len(told) - MOST_TUPLES} more"
+        return any_of(told) if told else ""
+    return f"{', '.join(told[:MOST_TUPLES])}, or one of {len(told) - MOST_TUPLES} more"
+
+
+def simplex_text(simplex):
+    return f"{{{', '.join(f'p{process}={value}' for process, value in simplex)}}}"
+
+
+def parts_of_tuples(tuples, near):
+    """The tuples that hang together, in the order of their first tuples."""
+    parts, left = [], list(tuples)
+    while left:
+        part, front = [], [left.pop(0)]
+        while front:
+            part += front
+            front, left = [it for it in left if any(near(it, x) for x in front)], [it for it in left if not any(near(it, x) for x in front)]
+        parts.append(sorted(part))
+    return parts
+
+
+def differ_at(one, other):
+    return [place for place, (a, b) in enumerate(zip(one, other)) if a != b]
+
+
+def part_of(face, simplex, values):
+    """What a face of the simplex has of the values of its vertices."""
+    return tuple(value for vertex, value in zip(simplex, values) if vertex in face)
+
+
+class Tree:
+    """An obstruction in words. A task at hand has the tuples of each input simplex."""
+
+    def __init__(self, task, nodes):
+        self.symmetric, self.left, self.lines = task["symmetric"], list(nodes), []
+        self.inputs = sorted({f for s in task["inputs"] for f in faces(simplex_of(s))}, key=lambda s: (len(s), s))
+        allowed = {simplex_of(e["in"]): sorted({tuple(t) for t in e["out"]}) for e in task["delta"]}
+        self.tell([allowed[simplex] for simplex in self.inputs], 0)
+
+    def say(self, depth, text, entries=(), end=""):
+        """A line, and one below it for each entry, with a comma behind all but the last."""
+        space = "  " * min(depth, DEEPEST)
+        self.lines.append(space + text + ",".join(f"\n{space}  {entry}" for entry in entries) + end)
+
+    def tell(self, hand, depth):
+        word, numbers, entries = self.left.pop(0)
+        {"balance": self.balance, "case": self.case, "split": self.split, "cover": self.cover}[word](hand, depth, numbers, entries)
+
+    def balance(self, hand, depth, numbers, entries):
+        modulus, total = numbers
+        told = []
+        groups = itertools.groupby(sorted({(s, i, w, y) for w, s, i, *y in ((*m[:3], *map(int, m[3:])) for m in entries) for y in [tuple(y)]}), lambda it: it[:3])
+        for (number, place, weight), group in groups:
+            simplex = self.inputs[number]
+            face = simplex[:place] + simplex[place + 1:]
+            names = listed([f"p{process}" for process, _ in face], ", ", " and ") if face else ""
+            verb = "decides" if len(face) == 1 else "decide"
+            sides = f"{names} {verb} {tuples_text([it[3] for it in group])} as often on {simplex_text(simplex)} as on {simplex_text(face)}"
+            told.append((sides if face else f"{simplex_text(simplex)} has one execution") + (f", {weight} times" if weight > 1 else ""))
+        self.say(depth, f"Count executions{' with their signs' if modulus > 2 else ''} modulo {modulus}:", told, ".")
+        self.say(depth, f"Add these equations up. Each tuple that is allowed counts as often on the left as on the right modulo {modulus}, but the single"
+                 f" executions add {total} on the right. So 0 would be {total} modulo {modulus}.")
+
+    def alike(self, one, other):
+        """Whether executions on two simplices decide alike."""
+        return one == other or self.symmetric and [x for _, x in one] == [x for _, x in other]
+
+    def case(self, hand, depth, numbers, _):
+        simplex = self.inputs[numbers[0]]
+        steps = 1 if len(simplex) > 1 else 0
+        parts = parts_of_tuples(hand[numbers[0]], lambda a, b: len(differ_at(a, b)) <= steps)
+        if steps:
+            which = f"all executions decide tuples of one part of {len(parts)}: they are joined by changes of a single view"
+        else:
+            which = f"there is one execution, which decides one of {len(parts)} values"
+        self.say(depth, f"On {simplex_text(simplex)} {which}.")
+        for number, part in enumerate(parts, 1):
+            self.say(depth, f"Part {number}: {tuples_text(part)}.")
+            self.tell([[it for it in tuples if it in part] if self.alike(simplex, other) else tuples for other, tuples in zip(self.inputs, hand)],
+                      depth + 1)
+
+    def split(self, hand, depth, numbers, _):
+        simplex, tuples = self.inputs[numbers[0]], hand[numbers[0]]
+        new = 1 + max((x for it in hand for t in it for x in t), default=0)
+        names = [{} for _ in simplex]
+        for place, named in enumerate(names):
+            seen, free = set(), new
+            for part in parts_of_tuples(tuples, lambda a, b: a[place] == b[place] and len(differ_at(a, b)) <= 1 and len(simplex) > 1):
+                value = part[0][place]
+                name, free = (free, free + 1) if value in seen else (value, free)
+                seen.add(value)
+                named.update({it: name for it in part})
+        told = []
+        for place, named in enumerate(names):
+            for name in sorted({it for it in named.values() if it >= new}):
+                called = [it for it in tuples if named[it] == name]
+                told.append(f"{called[0][place]} of p{simplex[place][0]} is called {name} in {tuples_text(called)}")
+        where = f"On {simplex_text(simplex)}"
+        if told:
+            self.say(depth, f"{where} and its faces a value has a name of its own for each part of what is decided beside it:", told, ".")
+        else:
+            self.say(depth, f"{where} no value is taken apart.")
+        renamed = {it: tuple(named[it] for named in names) for it in tuples}
+        choices = {process: {} for process, _ in simplex}
+        for it, named in renamed.items():
+            for (process, _), value, name in zip(simplex, it, named):
+                choices[process].setdefault(value, {value}).add(name)
+        self.tell([
+            self.on_face(other, simplex, rows, renamed.items()) if set(other) <= set(simplex) else self.elsewhere(other, rows, choices)
+            for other, rows in zip(self.inputs, hand)], depth)
+
+    @staticmethod
+    def on_face(face, simplex, rows, renamed):
+        """What the face has of the tuples with other names, if it allows what it has of them without."""
+        return sorted({part_of(face, simplex, named) for it, named in renamed if part_of(face, simplex, it) in rows})
+
+    @staticmethod
+    def elsewhere(simplex, rows, choices):
+        """Each process decides any name of a value."""
+        return sorted({it for row in rows for it in itertools.product(*(choices.get(p, {}).get(x, {x}) for (p, _), x in zip(simplex, row)))})
+
+    def cover(self, hand, depth, numbers, moves):
+        number, sheets, corner = numbers
+        simplex, tuples = self.inputs[number], hand[number]
+        new = 1 + max((x for it in hand for t in it for x in t), default=0)
+        there = [f"p{process}" for process, _ in simplex] + ["nobody"] * 4
+        told = [f"from {a} of {there[i]} to {b} of {there[j]} the sheets {listed([str(k) for k in range(len(to))], ', ', ' and ')} go to "
+                f"{listed([str(k) for k in to], ', ', ' and ')}" for i, a, j, b, *to in moves]
+        first = (f"On {simplex_text(simplex)} and its faces values lie on sheets 0 to {sheets - 1}, and {there[corner]} alone is on sheet 0. Value V on sheet S"
+                 f" is called V + S * {new}. Values of one execution lie on one sheet")
+        self.say(depth, f"{first}, but" if told else first, told, ".")
+
+        def moved(sheet, i, a, j, b):
+            for first, x, second, y, *to in moves:
+                if (first, x, second, y) == (i, a, j, b):
+                    return to[sheet]
+                if (first, x, second, y) == (j, b, i, a):
+                    return to.index(sheet)
+            return sheet
+
+        lifted = [(it, tuple(x + new * (sheet if place == corner else moved(sheet, corner, it[corner], place, x)) for place, x in enumerate(it)))
+                  for it in tuples for sheet in range(sheets)]
+        values = {x for it in hand for t in it for x in t}
+        choices = {process: {x: {x + new * sheet for sheet in range(sheets)} for x in values} for process, _ in simplex}
+        self.tell([
+            rows if other == (simplex[corner],)
+            else self.on_face(other, simplex, rows, lifted) if set(other) <= set(simplex) else self.elsewhere(other, rows, choices)
+            for other, rows in zip(self.inputs, hand)], depth)
 
 
 def obstruction_text_of(task, text):
     """An obstruction in words."""
-    header, tuples = obstruction_of(text)
-    inputs = sorted({f for s in task["inputs"] for f in faces(simplex_of(s))}, key=lambda s: (len(s), s))
-    values = sorted({v for s in task["outputs"] for _, v in s})
-    lines = []
-    for (simplex, weight), group in itertools.groupby(sorted(set(tuples)), lambda it: it[:2]):
-        vertices = ", ".join(f"p{p}={x}" for p, x in (inputs[simplex] if simplex < len(inputs) else ()))
-        times = f", {weight} times each" if weight > 1 else ""
-        lines.append(f"\n  of {{{vertices}}} that {decisions_text(values, [it[2] for it in group])}{times}")
-    modulus = header["modulus"]
-    symmetric = " In a symmetric task points are views up to the names of the processes." if task["symmetric"] else ""
+    nodes = nodes_of(text)
+    symmetric = (" The task is symmetric: a simplex stands for all with the same inputs in the order of their processes, and points are views"
+                 " up to the names of the processes.")
     signs = ("An execution of n processes after r rounds counts with a minus sign if n * r and the number of blocks in its words"
              " differ by an odd number.\n")
     return "".join([
-        f"No decision map after any number of rounds: a count modulo {modulus}.\n\n",
-        f"Give each point any value of an output.{symmetric} Count the executions{','.join(lines)}.\n",
-        signs if modulus > 2 else "",
-        "The task allows none of these decisions. But whichever of these values the points have, the count is ",
-        f"{header['sum']} modulo {modulus}. So it is not 0.\n",
+        f"No decision map after any number of rounds.\n\nSuppose that there is a decision map.{symmetric if task['symmetric'] else ''}\n",
+        *(f"{line}\n" for line in Tree(task, nodes).lines),
+        signs if any(word == "balance" and numbers[0] > 2 for word, numbers, _ in nodes) else "",
     ])
 
 

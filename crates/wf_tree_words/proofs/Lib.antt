@@ -1,0 +1,9 @@
+mod FacesInWords
+mod Firsts
+mod InputsInWords
+mod ListsInWords
+mod Pieces
+mod Renaming
+mod Runs
+mod SortedMultipliers
+mod Telling
