@@ -163,8 +163,8 @@ fn put_each_part(
     requires at_hand { IsAtHand walk.now.task.now (map vec_items rows.now) }
     requires levels { at.levels + at.depth < most_levels }
     requires simplex { cases.simplex < length rows.now }
-    requires count { cases.count
-        ≡ length (components (rule_at (at_hand walk.now.task.now (map vec_items rows.now)) cases.simplex)) }
+    requires count { let t = at_hand walk.now.task.now (map vec_items rows.now) in
+        cases.count ≡ length (components (rule_at t cases.simplex)) }
     ensures text { let t = at_hand walk.now.task.now (map vec_items rows.now) in
         let all = parts_told at.levels t at.depth cases.simplex 0
         (components (rule_at t cases.simplex)) (drop at.place (nodes_seen walk.now.nodes.now)) in

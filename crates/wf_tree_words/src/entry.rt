@@ -29,9 +29,19 @@ impl Model for MultiplierEntry {
 
     ghost Value = { Multiplier };
 
-    ghost view = { λ e. record { simplex = e.simplex; place = e.place; others = e.others; weight = e.weight } };
+    ghost view = { λ e. record {
+      simplex = e.simplex;
+      place = e.place;
+      others = e.others;
+      weight = e.weight;
+    } };
 
-    ghost inverse = { λ x. record { simplex = x.simplex; weight = x.weight; place = x.place; others = x.others } };
+    ghost inverse = { λ x. record {
+      simplex = x.simplex;
+      weight = x.weight;
+      place = x.place;
+      others = x.others;
+    } };
 
     ghost inverse_ok = { λ e h. refl };
 }

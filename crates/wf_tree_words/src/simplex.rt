@@ -2,7 +2,7 @@
 
 ghost use Rattle.std.specs.Prelude.{◌≡◌, ◌++◌, ◌<◌, codes, length, OnOk, slice_index, slice_index_or, string_bytes};
 ghost use Rattle.std.specs.List.{remove};
-ghost use Rattle.wf_model.specs.Simplex.{processes_of, values_of};
+ghost use Rattle.wf_model.specs.Simplex.{values_of};
 ghost use Rattle.wf_model.specs.Task.{IsTaskSimplex};
 ghost use Rattle.wf_tree_words.specs.Places.{before_at, vertex_in};
 ghost use Rattle.wf_tree_words.specs.Words.{at_text, deciders_text, simplex_text};
