@@ -151,9 +151,13 @@ def legend_of(scene: Scene, live: bool) -> Tuple[List[str], float]:
     if scene.values:
         x, y = 0.0, y + ROW
         for value in scene.values:
+            told = value_text(scene, value)
+            wide = 9 * len(str(value)) + text_width(told[len(str(value)):])
+            if told != str(value) and x and x + wide > max(scene.size[0], LEAST_WIDTH) - 2 * PAD:
+                x, y = 0.0, y + ROW
             where = f'x="{short(x + 1)}" y="{short(y - 7)}" width="14" height="14" rx="2"'
-            parts += [f'<rect class="spot" {where} fill="{colour(value, scene.palette)}"/>', said("key", x + 22, y, str(value))]
-            x += 32 + 9 * len(str(value))
+            parts += [f'<rect class="spot" {where} fill="{colour(value, scene.palette)}"/>', said("key", x + 22, y, told)]
+            x += 32 + wide
         parts.append(said("key", x + 4, y, scene.values_are))
     if scene.count and not live:
         y += ROW + 6
@@ -162,6 +166,12 @@ def legend_of(scene: Scene, live: bool) -> Tuple[List[str], float]:
         y += ROW
         parts.append(said("line", 0.0, y, line))
     return parts, y + 24
+
+
+def value_text(scene: Scene, value: int) -> str:
+    """A value as the legend tells it: the number, and its name if it has one."""
+    name = scene.names.value(value)
+    return name if name == str(value) else f"{value} {name}"
 
 
 def said(kind: str, x: float, y: float, text: str) -> str:
