@@ -40,7 +40,7 @@ HEAD = """<!-- made by docs/make_commands.py: change that script or the program'
 
 Each command but `preset` reads standard input. All write standard output. [FORMAT.md](FORMAT.md) describes the
 texts, and [ANSWERS.md](ANSWERS.md) says what they mean. The examples run at the top of the repository, with `bin/` on
-the path.
+the path. [ask](../tools/README.md) decides much that `solve` alone doesn't end on.
 
 """
 SHARED = """
