@@ -55,8 +55,6 @@ ENDS = """
 `wfcheck --version` writes the program's version, and the identity of the logic that proved it. [Exit
 statuses](../README.md#answers-and-trust) are the same for all commands. The checker alone, [wfverify](#wfverify), is a
 program of its own.
-
-`make install` puts man pages and completions into place.
 """
 
 
