@@ -1,5 +1,6 @@
 """Names for values and inputs: in the file beside a task, in answers, in words, and in pictures."""
 import json
+import re
 
 from .support import ROOT, TASKS, Case, known, needs_program, wfcheck
 from .test_commands import DOOR
@@ -112,6 +113,14 @@ class Named(Case):
         task = commit_adopt()
         told = wfcheck.explain(task, wfcheck.solve(task, 0))
         self.assertIn("1. v0 is not adopt no, adopt yes or commit to yes: in execution 0, {p0=no}, no tuple at (v0) has it. So v0 is commit to no.", told)
+
+    def test_a_legend_of_long_names_fits(self):
+        long = {number: f"{number} {'w' * 56}" for number in range(4)}
+        picture = wfcheck.solve(commit_adopt(names=long), 1)._repr_svg_()
+        keys = [(float(x), text) for x, text in re.findall(r'<text class="key" x="([\d.]+)"[^>]*>([^<]*)<', picture)]
+        self.assertEqual([text for _, text in keys][2:], [f"{number} {name}" for number, name in long.items()] + ["decided values"])
+        wide = float(re.search(r'width="([\d.]+)"', picture)[1])
+        self.assertEqual([text for x, text in keys if x + 6.5 * len(text) > wide - 24], [])
 
     def test_pictures(self):
         """A map, a refutation as a page, and outputs."""
