@@ -38,7 +38,8 @@ class WithoutProgram(Case):
             "not alone in round 1", "the lowest it saw in round 1", "saw two in round 2", "saw p0 in round 2", "saw p2 in round 2", "not alone in round 2",
             "the lowest it saw in round 2", "another was alone in round 1", "p2 was alone in round 1", "no other saw two in round 1", "p0 saw two in round 1",
             "no other saw three in round 1", "another saw less in round 1", "its input is 4", "knows the input 4", "knows the input 7",
-            "knows several inputs", "no other knew 4 alone after round 1", "another knew 7 alone after round 1", "another knew one input after round 1"])
+            "knows several inputs", "no other knew only the input 4 after round 1", "another knew only the input 7 after round 1",
+            "another knew one input after round 1"])
 
     def test_no_rules(self):
         """Values without any order at 128 views, by a generator of numbers."""

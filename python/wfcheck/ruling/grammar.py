@@ -60,7 +60,7 @@ def of_process(about: About) -> Iterator[Test]:
         yield asked(f"knows p{p}", lambda it, p: p in it.known, p)
         yield asked(f"doesn't know p{p}", lambda it, p: p not in it.known, p)
     for many in range(1, about.processes + 1 if about.rounds > 1 else 1):
-        yield asked("knows itself alone" if many == 1 else f"knows {NUMBERS[many]}", lambda it, many: len(it.known) == many, many)
+        yield asked("knows only itself" if many == 1 else f"knows {NUMBERS[many]}", lambda it, many: len(it.known) == many, many)
 
 
 def of_rounds(about: About) -> Iterator[Test]:
@@ -97,7 +97,7 @@ def of_inputs(about: About) -> Iterator[Test]:
     for value in about.inputs if len(about.inputs) > 1 else ():
         name = about.names.input(value)
         yield asked(f"its input is {name}", lambda it, value: it.own == value, value)
-        yield asked(f"knows {name} alone", lambda it, value: {*it.values} == {value}, value)
+        yield asked(f"knows only the input {name}", lambda it, value: {*it.values} == {value}, value)
         yield asked(f"knows the input {name}", lambda it, value: value in it.values, value)
         yield asked(f"doesn't know the input {name}", lambda it, value: value not in it.values, value)
         yield asked(f"most inputs it knows are {name}", lambda it, value: 2 * it.values.count(value) > len(it.values), value)
@@ -109,7 +109,7 @@ def of_inputs_before(about: About) -> Iterator[Test]:
     """The inputs that it and others knew after earlier rounds, as far as it knows."""
     for at in range(about.rounds - 1 if len(about.inputs) > 1 else 0):
         for value in about.inputs:
-            told = f"knew {about.names.input(value)} alone after round {at + 1}"
+            told = f"knew only the input {about.names.input(value)} after round {at + 1}"
             yield asked(told, lambda it, at, value: it.knew[it.process, at] == {value}, at, value)
             yield asked(f"another {told}", lambda it, at, value: {value} in it.others_knew(at), at, value)
             yield asked(f"no other {told}", lambda it, at, value: {value} not in it.others_knew(at), at, value)
