@@ -14,7 +14,7 @@ accept that report too, if it isn't longer than `verify` reads. Where there are 
 write the points that the second opinion finds, in its order, `wfcheck cnf` writes the formula of formula.py, and with the report of
 a map `points` has its values. Where it is none, `wfcheck trim` leaves the lines that the table says are needed, in the report's order, both accept
 those too, and `wfcheck explain` makes as many steps of them as it says. A map is lifted by a round by `wfcheck lift`, as independent.py lifts it, and accepted. A row that a
-SAT solver answered has what it wrote in `answers`: `wfcheck proof` or `wfcheck model` has to accept it.
+SAT solver answered has what it wrote in `answers`: `wfcheck proof` or `wfcheck model` has to accept it, and oracle/rup.py a proof.
 
 Each task is then asked about by `wfcheck obstruction`. It has to find an obstruction if and only if the table of obstructions has a row
 of the task: theory says `never` of it, and `answers` has its obstruction. `wfcheck verify` and the second opinion have to accept both
@@ -232,9 +232,15 @@ def by_solver(row, path, shown):
     lemmas = sum(line[:1] not in ("", "d") for line in file.read_text().split("\n"))
     if row.lines != str(lemmas):
         return f"the table says {row.lines}, the proof has {lemmas:,}", ""
-    proved = program(["proof", *about], file.read_text(), 60)
+    proved, begun = program(["proof", *about], file.read_text(), 60), time.monotonic()
     wanted = f"accepted none at {row.rounds} round{'s' if row.rounds != 1 else ''}\n"
-    return None if proved.stdout == wanted else f"proof: {proved.stdout}{proved.stderr}".strip(), "accepted"
+    if proved.stdout != wanted:
+        return f"proof: {proved.stdout}{proved.stderr}".strip(), ""
+    words = [sys.executable, common.ROOT / "oracle/rup.py", path, str(row.rounds)]
+    other = subprocess.run(words, input=file.read_text(), capture_output=True, text=True, timeout=LIMITS["< 1 min"])
+    if other.stdout != wanted:
+        return f"rup.py: {other.stdout}{other.stderr}".strip(), ""
+    return None, f"accepted, holds by rup.py in {time.monotonic() - begun:.1f} s"
 
 
 def is_size(row, views):

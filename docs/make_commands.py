@@ -40,7 +40,7 @@ HEAD = """<!-- made by docs/make_commands.py: change that script or the program'
 
 Each command but `preset` reads standard input. All write standard output. [FORMAT.md](FORMAT.md) describes the
 texts, and [ANSWERS.md](ANSWERS.md) says what they mean. The examples run at the top of the repository, with `bin/` on
-the path.
+the path. [ask](../tools/README.md) decides much that `solve` alone doesn't end on.
 
 """
 SHARED = """
@@ -55,8 +55,6 @@ ENDS = """
 `wfcheck --version` writes the program's version, and the identity of the logic that proved it. [Exit
 statuses](../README.md#answers-and-trust) are the same for all commands. The checker alone, [wfverify](#wfverify), is a
 program of its own.
-
-`make install` puts man pages and completions into place.
 """
 
 

@@ -6,8 +6,7 @@
 All commands that `wfcheck --help` lists are taken, with all that `wfcheck COMMAND --help` says of each. `docs/make_commands.py` makes
 docs/COMMANDS.md from the same. `checks/manual` compares the files with what is made today. The script needs bin/wfcheck, as
 `make build` leaves it, and ends with status 2 if a text can't be read. The help of wfverify stands in tests/verifier/help, with which
-`checks/verifier` compares what that program says. The pages of wfcheck-ask, wfcheck-draw, wfcheck-lint and wfcheck-task are made of the documents of
-their modules in python/wfcheck."""
+`checks/verifier` compares what that program says. The pages of the commands in SCRIPTS are made of the documents of their modules in python/wfcheck."""
 import collections
 import pathlib
 import re
@@ -16,8 +15,9 @@ import sys
 
 sys.path.insert(0, str(pathlib.Path(__file__).resolve().parent.parent / "checks"))
 import common  # noqa: E402
-from wfcheck import asking, linting, version, writing  # noqa: E402
+from wfcheck import asking, linting, naming, version, writing  # noqa: E402
 from wfcheck.drawing import main as drawing  # noqa: E402
+from wfcheck.ruling import main as ruling  # noqa: E402
 
 NAME = "wfcheck"
 CHECKER, SAID = "wfverify", common.ROOT / "tests/verifier"
@@ -131,6 +131,8 @@ SCRIPTS = {
     "wfcheck-ask": ("ask a question that may be too hard for the search alone", "TASK ROUNDS [options]", asking.__doc__, None),
     "wfcheck-draw": ("draw complexes, decision maps, refutations and obstructions", "TASK [REPORT] [options]", f"\n\n{drawing.ABOUT}", drawing.words),
     "wfcheck-lint": ("say where a task file is refused, or what in it most likely is a slip", "[--all] TASK.json", linting.__doc__, linting.parser),
+    "wfcheck-names": ("tell points and arguments by the names of values and inputs", "TASK.json < TEXT", naming.__doc__, naming.parser),
+    "wfcheck-rules": ("tell a decision map by few rules", "TASK.json REPORT", ruling.__doc__, ruling.parser),
     "wfcheck-task": ("write task files of the gallery", "[--folder FOLDER] NAME .. | --all | --list", writing.__doc__, writing.parser),
 }
 POINT, INDENTED = "  - ", "    "

@@ -15,7 +15,7 @@ BUILT, RELEASED, DIST = ROOT / "bin", ROOT / "release", ROOT / "dist"
 PROVENANCE = "PROVENANCE"
 PROGRAMS = ["wfcheck", "wfverify"]
 # each command that is Python, with the function of wfcheck.doors that it calls
-DOORS = {"wfcheck-ask": "ask", "wfcheck-draw": "draw", "wfcheck-lint": "lint", "wfcheck-task": "task"}
+DOORS = {f"wfcheck-{door}": door for door in ("ask", "draw", "lint", "names", "rules", "task")}
 COMMANDS = [*PROGRAMS, *DOORS]
 SHARE = "share/wfcheck"
 # where shells look for completions

@@ -1,9 +1,11 @@
 """The commands ask, lint, task and restrict, by the doors that they have."""
 import os
 import re
+import signal
 import subprocess
+import sys
 
-from .support import ROOT, TASKS, Case, known, needs_program
+from .support import PYTHON, ROOT, TASKS, Case, known, needs_program
 
 SECONDS = re.compile(r"\d+\.\d\d s")
 DOOR = "import sys\nfrom wfcheck import doors\nsys.argv[0] = 'wfcheck-{0}'\nsys.exit(doors.{0}())"
@@ -36,6 +38,16 @@ class WithoutProgram(Case):
         self.assertEqual((status, sorted(told.split())), (0, sorted(it.stem for it in TASKS.iterdir())))
         for words in ([], ["nothing"], ["--all", "consensus-2"]):
             self.assertEqual(self.python("-m", "wfcheck", "task", *words)[0], 2)
+
+    def test_task_lists_into_a_closed_pipe(self):
+        """As `--list | head` does: the command ends, and tells no traceback."""
+        for door in ([ROOT / "tools/tasks.py"], ["-m", "wfcheck", "task"]):
+            reader, writer = os.pipe()
+            os.close(reader)
+            words = [sys.executable, *map(str, door), "--list"]
+            run = subprocess.run(words, stdout=writer, stderr=subprocess.PIPE, env={**os.environ, "PYTHONPATH": str(PYTHON)}, check=False)
+            os.close(writer)
+            self.assertEqual((run.returncode, run.stderr), (-signal.SIGPIPE, b""))
 
     def test_finding_without_a_modulus(self):
         """The oracle writes an obstruction by the first modulus that has a balance, or says that no modulus has one."""

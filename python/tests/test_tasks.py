@@ -26,9 +26,12 @@ class Tasks(Case):
 
     @needs_program
     def test_the_example_of_the_document(self):
-        (_, script), (_, output) = FENCES.findall((PYTHON / "README.md").read_text())[:2]
+        (_, script), (_, output), (_, named), (_, last) = FENCES.findall((PYTHON / "README.md").read_text())[:4]
         (self.folder / "example.py").write_text(script)
         self.assertEqual(self.python(self.folder / "example.py", WFCHECK=str(wfcheck.running.program())), (0, output))
+        (self.folder / "ca.py").write_text(named)
+        status, said = self.python(self.folder / "ca.py", WFCHECK=str(wfcheck.running.program()))
+        self.assertEqual((status, said.endswith(last), (self.folder / "ca.names.json").is_file()), (0, True, True), said)
 
     def test_no_task_is_made_by_mistake(self):
         def fair(start, end):

@@ -12,11 +12,12 @@ release/wfcheck of this repository, or it is on the path. `python3 -m wfcheck --
 import sys
 
 try:
-    from .answers import Answer, Branching, Closed, Map, Multiplier, Node, Obstruction, Proof, Refutation, Step, Taken
+    from .answers import Answer, Branching, Closed, Map, Multiplier, Node, Obstruction, Proof, Refutation, Step, Taken, tell
     from .running import Error, NoAnswer, NoFile, NoProgram, Refused
     from .deciding import ask, decide
     from .outcomes import Between, From, MapAt, Never, NoneUpTo, NotDecided
     from .questions import explain, obstruction, points, solve, trim, verify
+    from .ruling.telling import rules
     from .tasks import Mistake, Task, read, restrict, task, write
     from .version import VERSION as __version__
     from .views import View
@@ -29,6 +30,6 @@ except Exception as error:
 
 __all__ = [
     "Answer", "Between", "Branching", "Closed", "Error", "From", "Map", "MapAt", "Mistake", "Multiplier", "Never", "NoAnswer", "NoFile",
-    "NoProgram", "Node", "NoneUpTo", "NotDecided", "Obstruction", "Proof", "Refutation", "Refused", "Step", "Taken", "Task", "View", "ask", "decide", "explain", "obstruction", "points", "read", "restrict", "solve", "task",
-    "__version__", "trim", "verify", "write",
+    "NoProgram", "Node", "NoneUpTo", "NotDecided", "Obstruction", "Proof", "Refutation", "Refused", "Step", "Taken", "Task", "View", "ask", "decide", "explain", "obstruction", "points", "read", "restrict", "rules", "solve", "task",
+    "__version__", "tell", "trim", "verify", "write",
 ]

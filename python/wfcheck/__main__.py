@@ -1,5 +1,6 @@
 """`python3 -m wfcheck ask TASK ROUNDS ..`, `.. lint TASK` and `.. task NAME` are the commands wfcheck-ask, wfcheck-lint and wfcheck-task.
-`python3 -m wfcheck restrict --processes 0,2 < TASK` writes the task of some processes alone. `.. draw TASK [REPORT]` draws."""
+`python3 -m wfcheck restrict --processes 0,2 < TASK` writes the task of some processes alone. `.. draw TASK [REPORT]` draws.
+`.. names TASK < TEXT` and `.. rules TASK REPORT` are wfcheck-names and wfcheck-rules."""
 import argparse
 import pathlib
 import sys
@@ -11,7 +12,9 @@ USAGE = """usage: python3 -m wfcheck ask TASK ROUNDS [options]
        python3 -m wfcheck lint [--all] TASK
        python3 -m wfcheck task NAME .. | --all | --list
        python3 -m wfcheck restrict --processes P,.. < TASK
-       python3 -m wfcheck draw TASK [REPORT] [options]"""
+       python3 -m wfcheck draw TASK [REPORT] [options]
+       python3 -m wfcheck names TASK < TEXT
+       python3 -m wfcheck rules TASK REPORT"""
 
 
 def main(words: List[str]) -> int:
@@ -27,6 +30,12 @@ def main(words: List[str]) -> int:
     if words[:1] == ["task"]:
         from . import writing
         return writing.main(words[1:], "python3 -m wfcheck task")
+    if words[:1] == ["names"]:
+        from . import naming
+        return naming.main(words[1:], "python3 -m wfcheck names")
+    if words[:1] == ["rules"]:
+        from .ruling import main as ruled
+        return ruled.main(words[1:], "python3 -m wfcheck rules")
     if words[:1] != ["ask"]:
         print(USAGE, file=sys.stdout if words[:1] == ["--help"] else sys.stderr)
         return 0 if words[:1] == ["--help"] else REFUSED

@@ -1,5 +1,6 @@
 """Answers about a task, as objects that are read from the texts that the program writes."""
 import dataclasses
+import functools
 import html
 import itertools
 import json
@@ -16,6 +17,8 @@ HEADS = {FIRST: 6, OBSTRUCTION: 3}
 NODES, BELOW = {"case", "split", "cover", "balance"}, {"p": "cover", "m": "balance"}
 # how many rows of a table a notebook shows
 SHOWN = 200
+# how many letters the values of a map may take in a line
+LONG = 80
 NUMBER = re.compile(r"0|[1-9]\d*", re.A)
 
 
@@ -73,7 +76,19 @@ class Map:
     def __repr__(self) -> str:
         decided = sorted({*self.values.values()})
         values = f"values {decided[0]} to {decided[-1]}" if decided else "no value"
-        return f"<Map of {self.task!r} after {in_rounds(self.rounds)}: {len(self.values):,} views, {values}>"
+        if self.task.names.values and decided:
+            values = f"values {', '.join(map(self.task.names.value, decided))}"
+        return f"<Map of {self.task!r} after {in_rounds(self.rounds)}: {len(self.values):,} views, {cut(values)}>"
+
+    def __str__(self) -> str:
+        """The map as lines of views and values, without the numbers of their points."""
+        rows = [f"{view} decides {value}" for view, value in self.rows()]
+        return "\n".join([*rows, *([f".. and {len(self.values) - SHOWN:,} more views"] if len(self.values) > SHOWN else [])])
+
+    def rows(self) -> List[Tuple[str, str]]:
+        """The first views and their values in words."""
+        names, shown = self.task.names, itertools.islice(self.values.items(), SHOWN)
+        return [(tell(self.task, view), names.value(value)) for view, value in shown]
 
     def _repr_svg_(self) -> Optional[str]:
         """The answer as a picture, where a notebook shows it."""
@@ -82,8 +97,7 @@ class Map:
 
     def _repr_html_(self) -> str:
         """The map as a notebook shows it: a table of views and values."""
-        letter = "#" if json.loads(self.task.text)["symmetric"] else "p"
-        rows = [(words_of(view, letter), str(value)) for view, value in itertools.islice(self.values.items(), SHOWN)]
+        rows = self.rows()
         title = f"{self.task.name}: a decision map after {in_rounds(self.rounds)}"
         return (self._repr_svg_() or "") + table(title, ("view", "value"), rows, len(self.values) - len(rows), "views")
 
@@ -150,6 +164,22 @@ class Obstruction:
 
 
 Answer = Union[Map, Refutation, Proof, Obstruction]
+
+
+def cut(text: str) -> str:
+    """A text, or its beginning if it is long."""
+    return text if len(text) <= LONG else f"{text[:LONG]}.."
+
+
+def tell(task: Task, view: View) -> str:
+    """A view of a task in words, as `wfcheck points` tells it, with the names that inputs have."""
+    return words_of(view, letter_of(task.text), task.names)
+
+
+@functools.lru_cache(maxsize=8)
+def letter_of(text: str) -> str:
+    """What stands before numbers of processes: `#` in a symmetric task, where they are ranks, else `p`."""
+    return "#" if json.loads(text)["symmetric"] else "p"
 
 
 def in_rounds(rounds: int) -> str:

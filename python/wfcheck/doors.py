@@ -1,5 +1,5 @@
-"""The commands that come with the module: `wfcheck-ask`, `wfcheck-draw`, `wfcheck-lint` and `wfcheck-task`. tools/ask, tools/lint.py and
-tools/tasks.py are the same commands in the repository."""
+"""The commands that come with the module: `wfcheck-ask`, `wfcheck-draw`, `wfcheck-lint`, `wfcheck-names`, `wfcheck-rules` and
+`wfcheck-task`. tools/ask, tools/lint.py and tools/tasks.py are three of them in the repository."""
 import pathlib
 import shutil
 import sys
@@ -33,6 +33,18 @@ def lint() -> int:
     """`wfcheck-lint`: says where a task file is refused, or what in it most likely is a slip. Returns the status."""
     from . import linting
     return linting.main(sys.argv[1:], "wfcheck-lint")
+
+
+def names() -> int:
+    """`wfcheck-names`: tells points and arguments by the names of values and inputs. Returns the status."""
+    from . import naming
+    return naming.main(sys.argv[1:], "wfcheck-names")
+
+
+def rules() -> int:
+    """`wfcheck-rules`: tells a decision map by few rules. Returns the status."""
+    from .ruling import main
+    return main.main(sys.argv[1:], "wfcheck-rules")
 
 
 def task() -> int:

@@ -4,6 +4,7 @@ from typing import Any, Dict, List, Optional, Union
 
 from . import arguments
 from .answers import Answer, Map, Obstruction, Proof, Refutation, obstruction_of, report_of, text_of
+from .names import told
 from .running import Ran, Word, run
 from .tasks import Mistake, Task, write
 from .views import View, points_of
@@ -91,9 +92,14 @@ def verify(task: Task, answer: Union[Answer, str], rounds: Optional[int] = None,
 
 
 def explain(task: Task, answer: Union[Map, Refutation, Obstruction, str], *, seconds: Optional[float] = None) -> str:
-    """Why there is no map, in words and by the steps that are needed; of a map, what it decides.
+    """Why there is no map, in words and by the steps that are needed; of a map, what it decides. Values and inputs have their names.
 
     Raises Refused if it does not hold, and Mistake for a solver's proof, which has no argument in words."""
+    return told(explained(task, answer, seconds), task.names)
+
+
+def explained(task: Task, answer: Union[Map, Refutation, Obstruction, str], seconds: Optional[float] = None) -> str:
+    """What `wfcheck explain` writes of an answer, by numbers."""
     judged(task, seconds)
     an_answer(answer)
     if isinstance(answer, Proof):

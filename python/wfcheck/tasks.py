@@ -14,6 +14,7 @@ import pathlib
 from typing import AbstractSet, Any, Callable, Dict, Iterable, Iterator, List, Mapping, NamedTuple, Optional, Sequence, Set, Tuple, Union
 
 from . import files
+from .names import ENDING, Names, names_of, read_names
 from .running import Error, NoFile
 
 # those that take part with a value each, by ascending process
@@ -39,9 +40,10 @@ class NoTask(Mistake):
 
 
 class Task(NamedTuple):
-    """A task: a name for its file, and the text that the program reads."""
+    """A task: a name for its file, the text that the program reads, and what the numbers in it are called."""
     name: str
     text: str
+    names: Names = Names()
 
     def __repr__(self) -> str:
         name = repr(self.name)
@@ -53,28 +55,49 @@ class Task(NamedTuple):
 
 
 def read(path: Union[str, "os.PathLike[str]"]) -> Task:
-    """The task of a file, as it stands there: whether it is one is said by the program. Raises NoFile if the file can't be read."""
+    """The task of a file, as it stands there, with the names beside it: whether it is one is said by the program. Raises NoFile if the file
+    can't be read, or the names beside it."""
     if not isinstance(path, (str, os.PathLike)):
         raise TypeError(f"a file is named by a string or a path, and not by {path!r}")
     file = pathlib.Path(path)
     try:
         with files.opened(file) as text:
-            return Task(file.name.removesuffix(".json"), text.read().decode("utf-8"))
+            made = Task(file.name.removesuffix(".json"), text.read().decode("utf-8"))
     except (OSError, ValueError) as error:
         raise NoFile(f"{file} can't be read: {told(error)}") from error
+    return made._replace(names=names_beside(file))
+
+
+def names_beside(file: pathlib.Path) -> Names:
+    """The names that stand beside the file of a task, or none if there are none. Raises NoFile if they can't be read."""
+    path = named_file(file.parent, file.name.removesuffix(".json"))
+    try:
+        with files.opened(path) as text:
+            return read_names(text.read(LONGEST).decode("utf-8"))
+    except FileNotFoundError:
+        return Names()
+    except (OSError, RecursionError, ValueError) as error:
+        raise NoFile(f"{path} can't be read: {told(error)}") from error
+
+
+def named_file(folder: pathlib.Path, name: str) -> pathlib.Path:
+    """The file in a folder that has the names of a task."""
+    return folder / f"{name}{ENDING}"
 
 
 def write(made: Task, folder: Union[str, "os.PathLike[str]"] = ".") -> pathlib.Path:
-    """Writes the file of a task into a folder, and returns its path. Raises Mistake if its name is none of a file, and NoFile if the file
-    can't be written."""
+    """Writes the file of a task into a folder, and returns its path. If the task has names, NAME.names.json beside it gets them. Raises Mistake
+    if its name is none of a file, and NoFile if a file can't be written."""
     if not isinstance(made, Task) or not isinstance(made.text, str):
         raise TypeError(f"a task is what `task` or `read` returns, and not {made!r}")
     judge_name(made.name)
     path = pathlib.Path(folder) / f"{made.name}.json"
-    try:
-        path.write_bytes(made.text.encode("utf-8"))
-    except (OSError, ValueError) as error:
-        raise NoFile(f"{path} can't be written: {told(error)}") from error
+    texts = {path: made.text, **({named_file(path.parent, made.name): made.names.text()} if made.names != Names() else {})}
+    for file, text in texts.items():
+        try:
+            file.write_bytes(text.encode("utf-8"))
+        except (OSError, ValueError) as error:
+            raise NoFile(f"{file} can't be written: {told(error)}") from error
     return path
 
 
@@ -99,7 +122,8 @@ def simplices(listed: Iterable[Sequence[Tuple[int, int]]]) -> List[Simplex]:
 
 
 def task(name: str, processes: int, inputs: Iterable[Input], legal: Legal, values: Iterable[int], symmetric: bool = False,
-         first_block: Optional[int] = None, partial: Optional[Legal] = None) -> Task:
+         first_block: Optional[int] = None, partial: Optional[Legal] = None, names: Optional[Mapping[int, str]] = None,
+         input_names: Optional[Mapping[int, str]] = None) -> Task:
     """The task in which some processes begin as one of the inputs says, and may decide what is legal.
 
     An input is one value for each process, in their order, or a dictionary where some take no part. Each part of an input
@@ -107,7 +131,8 @@ def task(name: str, processes: int, inputs: Iterable[Input], legal: Legal, value
     take part. If there is a `partial(start, end)`, it is asked first, of the values that the first few of them decide: where it says
     no, nothing that begins so is legal, and `legal` is not asked. Outputs are whatever is legal somewhere. In a symmetric task a process doesn't know its name. With a first block
     the file has version 2, and its values may be up to 255: in every round the first block has at least so many of those that
-    take part, or all of them; 1 leaves all words.
+    take part, or all of them; 1 leaves all words. `names` has what values are called, by number, and `input_names` the same of inputs:
+    answers are told by them, and the file is the same.
 
     Raises Mistake where there is no such task, and where its file would be too large to be read."""
     if not callable(legal) or not (partial is None or callable(partial)):
@@ -120,6 +145,7 @@ def task(name: str, processes: int, inputs: Iterable[Input], legal: Legal, value
     except TypeError as error:
         raise Mistake(f"{name}: inputs are a list of lists or dictionaries, and values a list of numbers ({error})") from error
     judge(name, processes, listed, several, first_block)
+    called = called_so(name, names, several, input_names, {v for simplex in listed for _, v in simplex})
     starts = simplices(listed)
     judge_number(name, "input vertices", sum(len(start) == 1 for start in starts))
     judge_number(name, "input simplices, with their faces", len(starts))
@@ -134,7 +160,20 @@ def task(name: str, processes: int, inputs: Iterable[Input], legal: Legal, value
     ends = {tuple(zip((p for p, _ in start), each)) for start, rule in rules.items() for each in rule}
     text = text_of({**whole, "processes": processes, "symmetric": symmetric}, rules, ends)
     judge_sizes(name, rules, text)
-    return Task(name, text)
+    return Task(name, text, called)
+
+
+def called_so(name: str, values: Optional[Mapping[int, str]], decided: Set[int], inputs: Optional[Mapping[int, str]], begun: Set[int]) -> Names:
+    """The names of values and inputs. Raises Mistake if they are none, or name what the task has not."""
+    try:
+        found = names_of(values, inputs)
+    except ValueError as error:
+        raise Mistake(f"{name}: {error}") from error
+    for what, named, there in [("value", found.values, decided), ("input", found.inputs, begun)]:
+        strangers = [number for number, _ in named if number not in there]
+        if strangers:
+            raise Mistake(f"{name}: {strangers[0]} has a name, and is no {what} of the task")
+    return found
 
 
 def pairs_of(name: str, processes: int, given: Input) -> Simplex:
@@ -196,7 +235,8 @@ def restricted(made: Task, named: Sequence[int]) -> Task:
     others = {name: it for name, it in whole.items() if name in ("version", "first_block", "symmetric")}
     ordered = {start: rules[start] for start in sorted(rules, key=by_size)}
     ends = {part(it) for it in whole["outputs"]} - {()}
-    return Task("-".join([made.name, *(f"p{it}" for it in kept)]), text_of({**others, "processes": len(kept)}, ordered, ends))
+    text = text_of({**others, "processes": len(kept)}, ordered, ends)
+    return Task("-".join([made.name, *(f"p{it}" for it in kept)]), text, made.names)
 
 
 def judge(name: str, processes: int, listed: Sequence[Simplex], values: Set[int], first_block: Optional[int]) -> None:

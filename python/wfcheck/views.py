@@ -5,6 +5,7 @@ the last round, by ascending process, its own among them. In a symmetric task th
 import re
 from typing import Any, Dict, List, Optional, Tuple
 
+from .names import Names
 from .running import Error
 
 # Python's types have no name for a tuple that is nested to any depth: (process, input), or (process, (view, ..))
@@ -27,12 +28,13 @@ def view_of(text: str) -> View:
     return view
 
 
-def words_of(view: View, letter: str = "p") -> str:
-    """A view as `wfcheck points` tells it. The letter is `p` for processes, and `#` for the ranks of a symmetric task."""
+def words_of(view: View, letter: str = "p", names: Names = Names()) -> str:
+    """A view as `wfcheck points` tells it. The letter is `p` for processes, and `#` for the ranks of a symmetric task. Inputs have their
+    names."""
     first, seen = view
     if isinstance(seen, int):
-        return f"{letter}{first}={seen}"
-    return f"{letter}{first} saw {{{', '.join(words_of(each, letter) for each in seen)}}}"
+        return f"{letter}{first}={names.input(seen)}"
+    return f"{letter}{first} saw {{{', '.join(words_of(each, letter, names) for each in seen)}}}"
 
 
 def view_at(text: str, at: int, same: Dict[View, View]) -> Tuple[View, int]:

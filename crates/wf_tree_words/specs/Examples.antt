@@ -5,7 +5,7 @@ use Rattle.wf_model.specs.Lists.{below, lists_of}
 use Rattle.wf_model.specs.Presets.{own, set_agreement}
 use Rattle.wf_trees.specs.KnownResults.{hourglass, hourglass_by_cases, hourglass_tree, one_decides_0, three_bits, two_decided}
 use Rattle.wf_trees.specs.Trees.{balance_node, nodes_of, split_node}
-use Rattle.wf_counting.specs.KnownResults.{symmetry_breaking}
+use Rattle.wf_trees.specs.KnownResults.{symmetry_breaking}
 use Rattle.wf_tree_words.specs.Words.{argument_text, cover_text, tuples_text, values_text}
 
 -- ---- the whole

@@ -6,7 +6,10 @@ false. So each case proof is weakened in this way, and ends with the lemma that 
 of the point has no literal left. `wfcheck proof` checks the whole as any other proof.
 
 A solver may delete clauses of the formula, which the next cases need. So a case proof deletes only lemmas of its own, each no more often
-than it has added it."""
+than it has added it.
+
+A checker of proofs keeps a literal that once followed, whatever is deleted. In the composed proof such a literal holds in its case alone. A
+solver may rest on one without writing it as a lemma. So if a lemma is refused, the proof is composed once more, without deletions."""
 from __future__ import annotations
 
 import collections

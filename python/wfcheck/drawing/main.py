@@ -7,7 +7,7 @@ import tempfile
 from typing import Callable, List, NamedTuple, Optional
 
 from ..answers import FIRST, OBSTRUCTION, body, obstruction_of, report_of
-from ..questions import explain, verify
+from ..questions import explained, verify
 from ..running import Error, NoFile, Refused, run
 from ..tasks import Simplex, Task, read, told
 from ..views import Unreadable
@@ -115,8 +115,8 @@ def of_report(task: Task, text: str, choice: Choice) -> Picture:
         values = [int(line[2:]) for line in body(text, FIRST)[1] if line.startswith("m ")]
         scene = pictures.of_map(task, report.rounds, values, choice)
         return Picture(scene, lambda: page.of_values(scene))
-    argument = argument_of(explain(task, text))
-    return Picture(pictures.of_refutation(task, report.rounds, argument, choice), lambda: page.of_argument(argument))
+    argument = argument_of(explained(task, text))
+    return Picture(pictures.of_refutation(task, report.rounds, argument, choice), lambda: page.of_argument(argument, task.names))
 
 
 def of_obstruction(task: Task, text: str, asked: argparse.Namespace, choice: Choice) -> Picture:

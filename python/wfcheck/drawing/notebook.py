@@ -2,7 +2,7 @@
 from typing import Optional, Union
 
 from ..answers import Map, Obstruction, Refutation
-from ..questions import explain
+from ..questions import explained
 from ..running import Error
 from . import pictures
 from .argument import argument_of
@@ -30,6 +30,6 @@ def scene_of(answer: Union[Map, Refutation, Obstruction]) -> Optional[Scene]:
     if isinstance(answer, Map):
         return pictures.of_map(answer.task, answer.rounds, [*answer.values.values()], Choice())
     if isinstance(answer, Refutation):
-        return pictures.of_refutation(answer.task, answer.rounds, argument_of(explain(answer.task, answer)), Choice())
+        return pictures.of_refutation(answer.task, answer.rounds, argument_of(explained(answer.task, answer)), Choice())
     weights = weights_of(rules_of(answer.task), answer)
     return pictures.of_obstruction(answer.task, ROUNDS, weights, SEED, False, Choice()) if weights else None

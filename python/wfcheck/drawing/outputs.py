@@ -1,6 +1,7 @@
 """The scene of a task's output complex: a graph of what processes may decide, with the tuples lit that some inputs allow."""
 from typing import Dict, List, Optional, Sequence, Tuple
 
+from ..names import Names
 from ..tasks import Simplex, Task, simplices
 from .graphs import Vertex, XY, by_distances, disc, graph, lowest, neighbours
 from .scene import MARGIN, MOST_RADIUS, Cell, Scene, Spot, TooLarge, counted, nearest
@@ -53,14 +54,14 @@ def pinched(tuples: Sequence[Simplex]) -> List[Vertex]:
     return found
 
 
-def simplex_text(simplex: Simplex) -> str:
+def simplex_text(simplex: Simplex, names: Names = Names()) -> str:
     """An input simplex in words."""
-    return "{" + ", ".join(f"p{p}={value}" for p, value in simplex) + "}"
+    return "{" + ", ".join(f"p{p}={names.input(value)}" for p, value in simplex) + "}"
 
 
-def tuple_text(simplex: Simplex) -> str:
+def tuple_text(simplex: Simplex, names: Names) -> str:
     """An output simplex in words."""
-    return ", ".join(f"p{p} decides {value}" for p, value in simplex)
+    return ", ".join(f"p{p} decides {names.value(value)}" for p, value in simplex)
 
 
 def chosen_simplex(rules: Rules, inputs: Optional[Simplex]) -> Simplex:
@@ -69,7 +70,7 @@ def chosen_simplex(rules: Rules, inputs: Optional[Simplex]) -> Simplex:
         return rules.facets[0]
     wanted = tuple(sorted(inputs))
     if wanted not in rules.simplices:
-        raise TooLarge(f"{simplex_text(wanted)} is no input simplex of the task")
+        raise TooLarge(f"{simplex_text(wanted, rules.names)} is no input simplex of the task")
     return wanted
 
 
@@ -83,17 +84,17 @@ def of_outputs(task: Task, inputs: Optional[Simplex]) -> Scene:
     if not vertices or len(vertices) > MOST_VERTICES:
         raise TooLarge(f"the output complex has {counted(len(vertices), 'vertex').replace('vertexs', 'vertices')}: "
                        f"from 1 to {MOST_VERTICES} are drawn")
-    scene = Scene(f"{task.name}: the output complex", palette=rules.values, processes=sorted({p for p, _ in vertices}), values=rules.values)
+    scene = Scene(f"{task.name}: the output complex", palette=rules.values, processes=sorted({p for p, _ in vertices}), values=rules.values, names=rules.names)
     set_places(scene, listed, vertices)
-    lit = set(allowed_simplices(rules, simplex))
+    lit, told = set(allowed_simplices(rules, simplex)), simplex_text(simplex, rules.names)
     for cell, it in zip(scene.cells, listed):
         cell.marks = {"lit"} if it in lit else set()
-        cell.title = tuple_text(it) + (f": allowed for {simplex_text(simplex)}" if it in lit else "")
-    scene.about = f"Lit: what {simplex_text(simplex)} allows, {counted(len(lit), 'tuple')}." if lit else \
-        f"{simplex_text(simplex)} allows nothing."
+        cell.title = tuple_text(it, rules.names) + (f": allowed for {told}" if it in lit else "")
+    scene.about = f"Lit: what {told} allows, {counted(len(lit), 'tuple')}." if lit else \
+        f"{told} allows nothing."
     for vertex in pinched(sorted(lit)):
         scene.spots[vertices.index(vertex)].marks = {"empty"}
-        scene.lines.append(f"p{vertex[0]} = {vertex[1]} is a pinch point: about it the lit triangles fall apart.")
+        scene.lines.append(f"p{vertex[0]} = {rules.names.value(vertex[1])} is a pinch point: about it the lit triangles fall apart.")
     return scene
 
 
@@ -104,10 +105,10 @@ def set_places(scene: Scene, listed: Sequence[Simplex], vertices: Sequence[Verte
     scale = min(SIDE * (1.6 if len(vertices) <= 12 else 1.0), WIDEST / max(wide, 1.0))
     low = max(y for _, y in places.values()) * scale
     at: Dict[Vertex, Tuple[float, float]] = {it: (x * scale + MARGIN, low - y * scale + MARGIN / 2) for it, (x, y) in places.items()}
-    scene.spots = [Spot(-1, number, it[0], at[it], tuple_text((it,)), value=it[1]) for number, it in enumerate(vertices)]
+    scene.spots = [Spot(-1, number, it[0], at[it], tuple_text((it,), scene.names), value=it[1]) for number, it in enumerate(vertices)]
     scene.radius = min(MOST_RADIUS, 0.3 * nearest([*at.values()])) if len(at) > 1 else MOST_RADIUS
     middle = sum(x for x, _ in at.values()) / len(at), sum(y for _, y in at.values()) / len(at)
-    scene.cells = [Cell(number, tuple(map(vertices.index, it)), tuple_text(it), middle=middle) for number, it in enumerate(listed)]
+    scene.cells = [Cell(number, tuple(map(vertices.index, it)), tuple_text(it, scene.names), middle=middle) for number, it in enumerate(listed)]
     scene.size = wide * scale + 2 * MARGIN, low + MARGIN
 
 

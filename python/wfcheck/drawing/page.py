@@ -4,6 +4,7 @@ import json
 from html import escape
 from typing import Any, Dict, List, Sequence, Tuple
 
+from ..names import Names, told as named
 from .argument import Argument, Step, shown
 from .counting import Weights, choices
 from .outputs import allowed_simplices, lit_by, pinched, simplex_text
@@ -48,7 +49,7 @@ def choice(number: int, text: str, depth: int = 0) -> str:
     return f'<li{indent}><button type="button" data-item="{number}" aria-pressed="false">{escape(text)}</button></li>'
 
 
-def of_argument(argument: Argument) -> Side:
+def of_argument(argument: Argument, names: Names = Names()) -> Side:
     """The steps of a refutation."""
     places = {step.number: at for at, step in enumerate(argument.steps())}
     entries: List[str] = []
@@ -56,14 +57,14 @@ def of_argument(argument: Argument) -> Side:
     for it in argument.items:
         depth = argument.cases[it.case].depth
         if isinstance(it, Step):
-            entries.append(choice(len(items), f"{it.number}. {it.text}", depth))
+            entries.append(choice(len(items), f"{it.number}. {named(it.text, names)}", depth))
             items.append(item([] if it.execution is None else [it.execution], it.points, k=it.case, about=it.point,
                               left=None if it.left is None else shown(it.left),
                               c=[places[number] for number in it.cites if number in places]))
         else:
             if items and items[-1]["about"] == it.empty:
                 items[-1]["left"] = "×"
-            entries.append(f'<li style="margin-left:{min(depth, 12) * 18}px"><span>{escape(it.text)}</span></li>')
+            entries.append(f'<li style="margin-left:{min(depth, 12) * 18}px"><span>{escape(named(it.text, names))}</span></li>')
     words = [KEYS, "<p>A step lights its execution and points, and with dashes the executions of the steps that it cites.</p>",
              '<ol aria-label="Steps of the argument">', *entries, "</ol>"]
     return "\n".join(words), {"live": True, "items": items, "cases": [[it.outer, it.point, it.value] for it in argument.cases]}
@@ -76,7 +77,7 @@ def of_values(scene: Scene) -> Side:
     for value in scene.values:
         points = sorted({it.point for it in scene.spots if it.value == value})
         executions = sorted({it.execution for it in scene.cells if it.value == value})
-        entries.append(choice(len(items), f"{value}: decided at {counted(len(points), 'point')}, by all in "
+        entries.append(choice(len(items), f"{scene.names.value(value)}: decided at {counted(len(points), 'point')}, by all in "
                                           f"{counted(len(executions), 'execution')}"))
         items.append(item(executions, points))
     return "\n".join([KEYS, '<ul aria-label="Values">', *entries, "</ul>"]), {"live": False, "items": items}
@@ -91,7 +92,7 @@ def of_participants(scene: Scene, made: Complex) -> Side:
     items: List[Dict[str, Any]] = []
     for simplex in [it for it in made.rules.simplices if it in by_simplex]:
         found = by_simplex[simplex]
-        entries.append(choice(len(items), f"{simplex_text(simplex)}: {counted(len(found), 'execution')}"))
+        entries.append(choice(len(items), f"{simplex_text(simplex, made.rules.names)}: {counted(len(found), 'execution')}"))
         items.append(item(found, []))
     return "\n".join([KEYS, '<ul aria-label="Input simplices">', *entries, "</ul>"]), {"live": False, "items": items}
 
@@ -100,9 +101,9 @@ def of_inputs(rules: Rules, chosen: Any) -> Side:
     """The input simplices, each with the tuples that it allows."""
     entries = []
     for number, it in enumerate(rules.simplices):
-        points = [f"p{p} = {value}" for p, value in pinched(allowed_simplices(rules, it))]
-        told = f"{simplex_text(it)} allows {counted(len(rules.allowed[it]), 'tuple')}"
-        entries.append(choice(number, f"{told}, which fall apart at {' and '.join(points)}" if points else told))
+        points = [f"p{p} = {rules.names.value(value)}" for p, value in pinched(allowed_simplices(rules, it))]
+        about = f"{simplex_text(it, rules.names)} allows {counted(len(rules.allowed[it]), 'tuple')}"
+        entries.append(choice(number, f"{about}, which fall apart at {' and '.join(points)}" if points else about))
     items = [item(lit_by(rules, it), []) for it in rules.simplices]
     words = "\n".join([KEYS, '<ul aria-label="Input simplices">', *entries, "</ul>"])
     data = {"live": False, "items": items, "first": rules.simplices.index(chosen), "about": "Lit: the tuples that the chosen inputs allow.",

@@ -61,7 +61,7 @@ def facets_of(rules: Rules, choice: Choice, needed: Optional[Sequence[Simplex]])
     wanted = set(choice.inputs or ())
     found = [it for it in rules.facets if wanted <= set(it)]
     if not found:
-        raise TooLarge("no input of the task has " + ", ".join(f"p{p}={value}" for p, value in sorted(wanted)))
+        raise TooLarge("no input of the task has " + ", ".join(f"p{p}={rules.names.input(value)}" for p, value in sorted(wanted)))
     return found if choice.all or choice.inputs or needed is None else chosen_facets(rules, needed)
 
 
@@ -108,7 +108,7 @@ def decide(scene: Scene, made: Complex, values: Sequence[int]) -> None:
     scene.values = made.rules.values
     for spot in scene.spots:
         spot.value = values[spot.point]
-        spot.title += f" decides {spot.value}"
+        spot.title += f" decides {made.rules.names.value(spot.value)}"
     for cell in scene.cells:
         decided = {scene.spots[it].value for it in cell.spots}
         cell.value = decided.pop() if len(decided) == 1 else None

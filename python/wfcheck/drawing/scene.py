@@ -3,6 +3,7 @@ import dataclasses
 import math
 from typing import Dict, Iterable, List, Optional, Sequence, Set, Tuple
 
+from ..names import Names
 from ..tasks import Simplex, faces
 from .embedding import GAP, Layout, Patch, layout, middle_of, place, shares
 from .graphs import XY
@@ -72,6 +73,7 @@ class Scene:
     radius: float = MOST_RADIUS
     count: str = ""
     values_are: str = "decided values"
+    names: Names = Names()
 
     @property
     def is_readable(self) -> bool:
@@ -152,7 +154,7 @@ class Drawer:
                 if key not in seen:
                     seen.add(key)
                     where = beside(self.at(xy), self.at(patch.middle), self.scene.radius)
-                    self.scene.notes.append(Note(where, f"p{process} = {value}", "corner"))
+                    self.scene.notes.append(Note(where, f"p{process} = {self.scene.names.input(value)}", "corner"))
 
     def name_faces(self) -> None:
         """Gives each edge that is drawn at several places a letter."""
@@ -169,7 +171,7 @@ class Drawer:
 
 def drawn(made: Complex, facets: Sequence[Simplex], heading: str, inside: bool = True) -> Scene:
     """The scene of a complex over some facets, or of their faces of at most two processes alone."""
-    scene = Scene(heading, processes=sorted({p for it in facets for p, _ in it}), palette=made.rules.values)
+    scene = Scene(heading, processes=sorted({p for it in facets for p, _ in it}), palette=made.rules.values, names=made.rules.names)
     drawer = Drawer(made, layout(facets), scene)
     drawer.draw(inside)
     scene.radius = max(LEAST_RADIUS, min(MOST_RADIUS, 0.36 * nearest([it.at for it in scene.spots])))

@@ -4,12 +4,13 @@ import itertools
 import json
 from typing import Any, Dict, FrozenSet, Iterable, List, NamedTuple, Optional, Sequence, Tuple
 
+from ..names import Names
 from ..tasks import Simplex, Task
 
 # the number of the block of each participant
 Word = Tuple[int, ...]
 # processes with what they are called
-Names = Tuple[Tuple[int, str], ...]
+Processes = Tuple[Tuple[int, str], ...]
 
 
 @functools.lru_cache(maxsize=None)
@@ -44,6 +45,7 @@ class Rules(NamedTuple):
     facets: List[Simplex]
     allowed: Dict[Simplex, List[Tuple[int, ...]]]
     values: List[int]
+    names: Names = Names()
 
 
 def rules_of(task: Task) -> Rules:
@@ -53,7 +55,7 @@ def rules_of(task: Task) -> Rules:
     facets = [it for it in listed if not any(set(it) < set(other) for other in listed)]
     allowed = {simplex_of(it["in"]): sorted({tuple(each) for each in it["out"]}) for it in whole["delta"]}
     values = sorted({value for each in whole["outputs"] for _, value in each})
-    return Rules(whole["processes"], whole["symmetric"], whole.get("first_block", 1), listed, facets, allowed, values)
+    return Rules(whole["processes"], whole["symmetric"], whole.get("first_block", 1), listed, facets, allowed, values, task.names)
 
 
 def simplex_of(listed: Sequence[Sequence[int]]) -> Simplex:
@@ -119,7 +121,7 @@ class Complex:
         it = self.views[view]
         return dict(order)[it.process], it.start[1] if it.start else tuple(self.ranked(each, order) for each in it.seen)
 
-    def names(self, simplex: Iterable[int]) -> Names:
+    def names(self, simplex: Iterable[int]) -> Processes:
         """What processes are called beside each other: by their numbers, or by their ranks in a symmetric task."""
         return tuple((p, f"#{rank}" if self.rules.symmetric else f"p{p}") for rank, p in enumerate(sorted(simplex)))
 
@@ -128,12 +130,12 @@ class Complex:
         return self.told(view, self.names(self.simplex_of(view)))
 
     @functools.lru_cache(maxsize=None)
-    def told(self, view: int, names: Names) -> str:
+    def told(self, view: int, names: Processes) -> str:
         """A view in words, with these names of the processes."""
         it = self.views[view]
         name = dict(names)[it.process]
         if it.start:
-            return f"{name}={it.start[1]}"
+            return f"{name}={self.rules.names.input(it.start[1])}"
         return f"{name} saw {{{', '.join(self.told(each, names) for each in it.seen)}}}"
 
     def execution_text(self, number: int) -> str:
@@ -142,7 +144,7 @@ class Complex:
         plain = [name for _, name in self.names(p for p, _ in it.simplex)]
         told = []
         for at, word in enumerate(it.words or ((0,) * len(it.simplex),)):
-            names = plain if at else [f"{name}={value}" for name, (_, value) in zip(plain, it.simplex)]
+            names = plain if at else [f"{name}={self.rules.names.input(value)}" for name, (_, value) in zip(plain, it.simplex)]
             blocks = [[name for name, other in zip(names, word) if other == block] for block in range(max(word) + 1)]
             told.append("".join(f"{{{' '.join(each)}}}" for each in blocks))
         return " ; ".join(told)

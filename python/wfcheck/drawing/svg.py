@@ -32,7 +32,8 @@ LEAST_WIDTH = 430.0
 def svg(scene: Scene, paged: bool = False, live: bool = False) -> str:
     """The scene as the text of an SVG file. On a page it has rings that a script may light, and a live one has all that may be shown."""
     legend, bottom = legend_of(scene, live)
-    width = max(scene.size[0], LEAST_WIDTH, *(text_width(it) + 2 * PAD for it in [scene.heading + "   ", scene.about, *scene.lines]))
+    width = max(scene.size[0], LEAST_WIDTH, *(text_width(it) + 2 * PAD for it in [scene.heading + "   ", scene.about, *scene.lines]),
+                *(1.1 * text_width(value_text(scene, it)) + 2 * PAD + 32 for it in scene.values))
     height = TOP + scene.size[1] + bottom
     left = (width - scene.size[0]) / 2
     view = f"0 0 {short(width)} {short(height)}"
@@ -149,11 +150,18 @@ def legend_of(scene: Scene, live: bool) -> Tuple[List[str], float]:
         parts += [f'<{name} class="spot" fill="{SHADES[process].fill}" {where}/>', said("key", x + 23, y, f"process {process}")]
         x += 106
     if scene.values:
-        x, y = 0.0, y + ROW
+        x, y, is_named = 0.0, y + ROW, any(value_text(scene, it) != str(it) for it in scene.values)
+        room = max(scene.size[0], LEAST_WIDTH) - 2 * PAD
         for value in scene.values:
+            told = value_text(scene, value)
+            wide = 9 * len(str(value)) + 1.1 * text_width(told[len(str(value)):])
+            if is_named and x and x + 32 + wide > room:
+                x, y = 0.0, y + ROW
             where = f'x="{short(x + 1)}" y="{short(y - 7)}" width="14" height="14" rx="2"'
-            parts += [f'<rect class="spot" {where} fill="{colour(value, scene.palette)}"/>', said("key", x + 22, y, str(value))]
-            x += 32 + 9 * len(str(value))
+            parts += [f'<rect class="spot" {where} fill="{colour(value, scene.palette)}"/>', said("key", x + 22, y, told)]
+            x += 32 + wide
+        if is_named and x + 4 + text_width(scene.values_are) > room:
+            x, y = 0.0, y + ROW
         parts.append(said("key", x + 4, y, scene.values_are))
     if scene.count and not live:
         y += ROW + 6
@@ -162,6 +170,12 @@ def legend_of(scene: Scene, live: bool) -> Tuple[List[str], float]:
         y += ROW
         parts.append(said("line", 0.0, y, line))
     return parts, y + 24
+
+
+def value_text(scene: Scene, value: int) -> str:
+    """A value as the legend tells it: the number, and its name if it has one."""
+    name = scene.names.value(value)
+    return name if name == str(value) else f"{value} {name}"
 
 
 def said(kind: str, x: float, y: float, text: str) -> str:
