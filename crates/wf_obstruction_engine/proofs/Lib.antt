@@ -1,1 +1,2 @@
 pub mod SearchRuns
+pub mod TriedNodes

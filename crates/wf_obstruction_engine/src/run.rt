@@ -112,7 +112,12 @@ fn accept(alloc: Global, task: &Task, asked: Option<u32>, text: &[u8]) -> Result
 fn are_tried(asked: Option<u32>, nodes: &[TreeNode]) -> bool
     ensures { result ≡ list_all (is_tried_at asked) (nodes_seen nodes.now) }
 {
-    nodes.iter().all(|node| is_tried_at(asked, node))
+    'nodes: for node in nodes {
+        if !is_tried_at(asked, node) {
+            return false;
+        }
+    }
+    true
 }
 
 /// Whether a node is no balance, or is one modulo a number that is to be tried.
