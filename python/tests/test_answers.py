@@ -119,7 +119,7 @@ class Answers(Case):
         found = wfcheck.obstruction(task)
         zero, one = (0, 0), (1, 1)
         self.assertEqual([(it.name, it.numbers, len(it.lines)) for it in found.nodes], [("balance", (2, 1), 3)])
-        self.assertEqual([*map(tuple, found.multipliers())], [((zero,), 0, (), 1), ((zero, one), 0, (0,), 1), ((zero, one), 1, (0,), 1)])
+        self.assertEqual([*map(tuple, found.multipliers())], [((one,), 1, (), 1), ((zero, one), 0, (1,), 1), ((zero, one), 1, (1,), 1)])
         self.assertEqual(found.text, (ANSWERS / "consensus-2.obstruction").read_text())
         self.assertEqual(wfcheck.verify(task, found), "accepted none at every number of rounds")
         self.assertIsNone(wfcheck.obstruction(known("symmetry-breaking-3"), 2))

@@ -65,8 +65,11 @@ class WithoutProgram(Case):
         for row in sorted((ROOT / "tests/rows").glob("explain-*/stdout")):
             plain = row.read_text()
             told = names.told(plain, back)
+            if plain.startswith(names.EVERY):
+                self.assertEqual(told, plain, row)
+                continue
             self.assertEqual(told.replace("value", "").replace("input", ""), plain.replace("value", "").replace("input", ""), row)
-            self.assertEqual("value" in told and "input" in told, plain.startswith("No decision map after ") and names.EVERY not in plain or "decides" in plain)
+            self.assertEqual("value" in told and "input" in told, plain.startswith("No decision map after ") or "decides" in plain, row)
 
     def test_a_name_is_no_number_to_be_named(self):
         called = names.names_of({0: "v1 is 1", 1: "p0=0"}, {0: "Case v0 = 1"})
