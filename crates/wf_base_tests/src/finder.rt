@@ -4,7 +4,7 @@ use std::alloc::Global;
 use std::cell::Cell;
 use std::test::Fail;
 use wf_examples::{CONSENSUS_2, RENAMING_2_3};
-use wf_finder::{FinderFault, Listener, Silent, TuplesByClass, find_balance, has_integer_solution};
+use wf_finder::{Listener, Silent, TuplesByClass, find_balance, has_integer_solution};
 use wf_refine::first_rows;
 use wf_task::Task;
 
@@ -39,30 +39,34 @@ impl Listener for Told {
     }
 }
 
-/// What the finder knows of a task.
-fn problem_of(alloc: Global, task: &Task) -> Result<TuplesByClass, FinderFault> {
-    let rows = first_rows(alloc, task)?;
-    TuplesByClass::of(alloc, task, &rows)
+/// What the finder knows of the task of a text.
+fn tuples_of(alloc: Global, text: &str) -> Result<TuplesByClass, Fail> {
+    let task = Task::read_text(alloc, text.as_bytes())?;
+    let rows = first_rows(alloc, &task)?;
+    Ok(TuplesByClass::of(alloc, &task, &rows)?)
+}
+
+/// The sum of a balance that is found, and how many multipliers it has.
+fn found(alloc: Global, text: &str, modulus: u32) -> Result<Option<(u32, usize)>, Fail> {
+    let tuples = tuples_of(alloc, text)?;
+    match find_balance(alloc, &tuples, modulus, &Silent)? {
+        Some(balance) => Ok(Some((balance.sum, balance.multipliers.len()))),
+        None => Ok(None),
+    }
+}
+
+/// Whether the integers show that there is none.
+fn has_integers(alloc: Global, text: &str) -> Result<bool, Fail> {
+    let tuples = tuples_of(alloc, text)?;
+    Ok(has_integer_solution(alloc, &tuples, &Silent)?)
 }
 
 /// Process 1 decides 1 alone, so it does as often with process 0. But then process 0 decides 1 as
-/// often, which it may not do alone.
+/// often, which it may not do alone: three equations.
 #[test]
 fn consensus(rt: HostRuntime) -> Result<(), Fail> {
     let alloc = rt.alloc();
-    let task = Task::read_text(alloc, CONSENSUS_2.as_bytes())?;
-    let problem = problem_of(alloc, &task)?;
-    let found = find_balance(alloc, &problem, 2, &Silent)?.expect(&rt, "a balance");
-    assert_eq!(rt; found.sum, 1);
-    let places: Vec<(u32, u8)> = found
-        .multipliers
-        .iter()
-        .map(|one| (one.simplex, one.place))
-        .collect(alloc)?;
-    assert_eq!(rt; places.as_slice(), [(1, 0), (2, 0), (2, 1)].as_slice());
-    let lone = found.multipliers.iter().map(|one| one.others.size());
-    let sizes: Vec<u8> = lone.collect(alloc)?;
-    assert_eq!(rt; sizes.as_slice(), [0, 1, 1].as_slice());
+    assert_eq!(rt; found(alloc, CONSENSUS_2, 2)?, Some((1, 3)));
     Ok(())
 }
 
@@ -71,13 +75,12 @@ fn consensus(rt: HostRuntime) -> Result<(), Fail> {
 #[test]
 fn a_listener_is_told(rt: HostRuntime) -> Result<(), Fail> {
     let alloc = rt.alloc();
-    let task = Task::read_text(alloc, CONSENSUS_2.as_bytes())?;
-    let problem = problem_of(alloc, &task)?;
+    let tuples = tuples_of(alloc, CONSENSUS_2)?;
     let listener = Told {
         unknowns: Cell::new(0),
         equations: Cell::new(0),
     };
-    assert!(rt; !has_integer_solution(alloc, &problem, &listener)?);
+    assert!(rt; !has_integer_solution(alloc, &tuples, &listener)?);
     assert_eq!(rt; listener.unknowns.get(), 5);
     assert_eq!(rt; listener.equations.get(), 5);
     Ok(())
@@ -87,12 +90,10 @@ fn a_listener_is_told(rt: HostRuntime) -> Result<(), Fail> {
 #[test]
 fn none(rt: HostRuntime) -> Result<(), Fail> {
     let alloc = rt.alloc();
-    let task = Task::read_text(alloc, RENAMING_2_3.as_bytes())?;
-    let problem = problem_of(alloc, &task)?;
-    assert!(rt; find_balance(alloc, &problem, 2, &Silent)?.is_none());
-    assert!(rt; find_balance(alloc, &problem, 2_147_483_647, &Silent)?.is_none());
-    assert!(rt; find_balance(alloc, &problem, 1, &Silent)?.is_none());
-    assert!(rt; has_integer_solution(alloc, &problem, &Silent)?);
+    assert_eq!(rt; found(alloc, RENAMING_2_3, 2)?, None);
+    assert_eq!(rt; found(alloc, RENAMING_2_3, 2_147_483_647)?, None);
+    assert_eq!(rt; found(alloc, RENAMING_2_3, 1)?, None);
+    assert!(rt; has_integers(alloc, RENAMING_2_3)?);
     Ok(())
 }
 
@@ -100,11 +101,9 @@ fn none(rt: HostRuntime) -> Result<(), Fail> {
 #[test]
 fn four(rt: HostRuntime) -> Result<(), Fail> {
     let alloc = rt.alloc();
-    let task = Task::read_text(alloc, FOUR.as_bytes())?;
-    let problem = problem_of(alloc, &task)?;
-    assert!(rt; find_balance(alloc, &problem, 2, &Silent)?.is_none());
-    let found = find_balance(alloc, &problem, 4, &Silent)?.expect(&rt, "a balance");
-    assert_eq!(rt; found.sum, 2);
-    assert!(rt; !has_integer_solution(alloc, &problem, &Silent)?);
+    assert_eq!(rt; found(alloc, FOUR, 2)?, None);
+    let sum = found(alloc, FOUR, 4)?.map(|balance| balance.0);
+    assert_eq!(rt; sum, Some(2));
+    assert!(rt; !has_integers(alloc, FOUR)?);
     Ok(())
 }

@@ -1,5 +1,6 @@
 //! Tests of refined tasks: parts, names and cases of small lists of tuples, worked out by hand.
 
+use std::alloc::Global;
 use std::test::Fail;
 use wf_examples::CONSENSUS_2;
 use wf_refine::{
@@ -126,31 +127,30 @@ pub(crate) const HOURGLASS: &str = concat!(
     r#"[[0,1],[1,2],[2,2]]],"processes":3,"symmetric":false,"version":1}"#
 );
 
+/// The tuples of the hourglass with the values of the triangle taken apart.
+fn hourglass_apart(alloc: Global) -> Result<Option<Vec<Vec<Row>>>, Fail> {
+    let task = Task::read_text(alloc, HOURGLASS.as_bytes())?;
+    let rows = first_rows(alloc, &task)?;
+    if rows.len() != 7 {
+        return Ok(None);
+    }
+    Ok(Some(split_rows(alloc, &task, &rows, 6)?))
+}
+
 #[test]
 fn the_hourglass_is_taken_apart(rt: HostRuntime) -> Result<(), Fail> {
     let alloc = rt.alloc();
-    let task = Task::read_text(alloc, HOURGLASS.as_bytes())?;
-    let rows = first_rows(alloc, &task)?;
-    assert_eq!(rt; rows.len(), 7);
-    if rows.len() == 7 {
-        // where all three decide, 1 stays in the first triangle of process 0, and is 3 in the other
-        let split = split_rows(alloc, &task, &rows, 6)?;
-        let pairs = [Row::new(&[0, 2]), Row::new(&[1, 1]), Row::new(&[3, 2])];
-        let all = [
-            Row::new(&[0, 2, 2]),
-            Row::new(&[1, 1, 1]),
-            Row::new(&[3, 2, 2]),
-        ];
-        assert_eq!(rt; split.len(), 7);
-        if split.len() == 7 {
-            assert_eq!(rt; split[0].as_slice(), [Row::new(&[0])].as_slice());
-            assert_eq!(rt; split[1].as_slice(), [Row::new(&[1])].as_slice());
-            assert_eq!(rt; split[3].as_slice(), pairs.as_slice());
-            assert_eq!(rt; split[4].as_slice(), pairs.as_slice());
-            assert_eq!(rt; split[5].as_slice(), [Row::new(&[1, 1])].as_slice());
-            assert_eq!(rt; split[6].as_slice(), all.as_slice());
-        }
-    }
+    let split = hourglass_apart(alloc)?.expect(&rt, "a task at hand");
+    assert_eq!(rt; split.len(), 7);
+    // where all three decide, 1 stays in one triangle of process 0, and is 3 in the other
+    let pairs = [Row::new(&[0, 2]), Row::new(&[1, 1]), Row::new(&[3, 2])];
+    assert_eq!(rt; split[3].as_slice(), pairs.as_slice());
+    let all = [
+        Row::new(&[0, 2, 2]),
+        Row::new(&[1, 1, 1]),
+        Row::new(&[3, 2, 2]),
+    ];
+    assert_eq!(rt; split[6].as_slice(), all.as_slice());
     Ok(())
 }
 
