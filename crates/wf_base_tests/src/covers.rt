@@ -105,20 +105,40 @@ fn cover_by(sheets: u8, moves: Vec<Move>) -> Covering
     }
 }
 
+/// First moves by some sheets, then moves by others.
+fn moves_then(
+    alloc: Global,
+    first: (&[Ends], &[u8]),
+    second: (&[Ends], &[u8]),
+) -> Result<Vec<Move>, AllocError> {
+    let mut moves = moves_by(alloc, first.0, first.1)?;
+    moves.append(&mut moves_by(alloc, second.0, second.1)?)?;
+    Ok(moves)
+}
+
+/// What is at fault in a cover of the torus by these moves.
+fn fault_by(alloc: Global, sheets: u8, moves: Vec<Move>) -> Result<Option<CoverFault>, Fail> {
+    let task = Task::read_text(alloc, TORUS.as_bytes())?;
+    let rows = first_rows(alloc, &task)?;
+    let cover = cover_by(sheets, moves);
+    if rows.len() != 7 {
+        // a fault that no test of moves expects
+        return Ok(Some(CoverFault::OneParticipant));
+    }
+    Ok(cover_fault(alloc, &task, &rows, &cover)?)
+}
+
 #[test]
 fn the_torus_has_two_sheets(rt: HostRuntime) -> Result<(), Fail> {
     let alloc = rt.alloc();
-    let task = Task::read_text(alloc, TORUS.as_bytes())?;
-    let rows = first_rows(alloc, &task)?;
-    assert_eq!(rt; rows.len(), 7);
-    let cover = cover_by(2, moves_by(alloc, &CHANGES, &[1, 0])?);
-    assert_eq!(rt; cover_fault(alloc, &task, &rows, &cover)?, None);
-    let cover = cover_by(2, moves_by(alloc, &CHANGES[..5], &[1, 0])?);
+    let moves = moves_by(alloc, &CHANGES, &[1, 0])?;
+    assert_eq!(rt; fault_by(alloc, 2, moves)?, None);
+    let moves = moves_by(alloc, &CHANGES[..5], &[1, 0])?;
     let left = CoverFault::NotFlat { tuple: 9 };
-    assert_eq!(rt; cover_fault(alloc, &task, &rows, &cover)?, Some(left));
-    let cover = cover_by(1, moves_by(alloc, &CHANGES, &[1, 0])?);
+    assert_eq!(rt; fault_by(alloc, 2, moves)?, Some(left));
+    let moves = moves_by(alloc, &CHANGES, &[1, 0])?;
     let none = CoverFault::NotFlat { tuple: 8 };
-    assert_eq!(rt; cover_fault(alloc, &task, &rows, &cover)?, Some(none));
+    assert_eq!(rt; fault_by(alloc, 1, moves)?, Some(none));
     no_fault_exactly_if_covering();
     Ok(())
 }
@@ -126,39 +146,25 @@ fn the_torus_has_two_sheets(rt: HostRuntime) -> Result<(), Fail> {
 #[test]
 fn the_first_move_counts(rt: HostRuntime) -> Result<(), Fail> {
     let alloc = rt.alloc();
-    let task = Task::read_text(alloc, TORUS.as_bytes())?;
-    let rows = first_rows(alloc, &task)?;
-    assert_eq!(rt; rows.len(), 7);
-    let mut moves = moves_by(alloc, &CHANGES, &[1, 0])?;
-    moves.append(&mut moves_by(alloc, &CHANGES[..1], &[0, 1])?)?;
-    let cover = cover_by(2, moves);
-    assert_eq!(rt; cover_fault(alloc, &task, &rows, &cover)?, None);
-    let mut moves = moves_by(alloc, &CHANGES[..1], &[0, 1])?;
-    moves.append(&mut moves_by(alloc, &CHANGES, &[1, 0])?)?;
-    let cover = cover_by(2, moves);
+    let moves = moves_then(alloc, (&CHANGES, &[1, 0]), (&CHANGES[..1], &[0, 1]))?;
+    assert_eq!(rt; fault_by(alloc, 2, moves)?, None);
+    let moves = moves_then(alloc, (&CHANGES[..1], &[0, 1]), (&CHANGES, &[1, 0]))?;
     let left = CoverFault::NotFlat { tuple: 9 };
-    assert_eq!(rt; cover_fault(alloc, &task, &rows, &cover)?, Some(left));
+    assert_eq!(rt; fault_by(alloc, 2, moves)?, Some(left));
     Ok(())
 }
 
 #[test]
 fn three_sheets_go_forth_and_back(rt: HostRuntime) -> Result<(), Fail> {
     let alloc = rt.alloc();
-    let task = Task::read_text(alloc, TORUS.as_bytes())?;
-    let rows = first_rows(alloc, &task)?;
-    assert_eq!(rt; rows.len(), 7);
     // at value 1 of place 0 the sheets are turned
     let forth = [(0, 1, 2, 0), (0, 1, 2, 1), (0, 1, 2, 2)];
     let back = [(1, 0, 0, 1), (1, 1, 0, 1), (1, 2, 0, 1)];
-    let mut moves = moves_by(alloc, &forth, &[1, 2, 0])?;
-    moves.append(&mut moves_by(alloc, &back, &[2, 0, 1])?)?;
-    let cover = cover_by(3, moves);
-    assert_eq!(rt; cover_fault(alloc, &task, &rows, &cover)?, None);
-    let mut moves = moves_by(alloc, &forth, &[1, 2, 0])?;
-    moves.append(&mut moves_by(alloc, &back, &[1, 2, 0])?)?;
-    let cover = cover_by(3, moves);
+    let moves = moves_then(alloc, (&forth, &[1, 2, 0]), (&back, &[2, 0, 1]))?;
+    assert_eq!(rt; fault_by(alloc, 3, moves)?, None);
+    let moves = moves_then(alloc, (&forth, &[1, 2, 0]), (&back, &[1, 2, 0]))?;
     let left = CoverFault::NotFlat { tuple: 5 };
-    assert_eq!(rt; cover_fault(alloc, &task, &rows, &cover)?, Some(left));
+    assert_eq!(rt; fault_by(alloc, 3, moves)?, Some(left));
     Ok(())
 }
 
