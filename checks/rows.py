@@ -26,7 +26,6 @@ LARGER = {
     "solve-one-process-256-values-account": 80, "views-agreement-4-3-r3": 64, "views-agreement-4-3-first-block-2-r4": 96,
     "preset-set-agreement-processes-4-k-1-values-7": 48, "solve-agreement-3-2-r1-w8-account": 40,
     "solve-agreement-3-2-r1-w2-account": 32, "solve-loop-hollow-r1-w2-progress": 32,
-    "proof-lrat-largest-new-variable": 48, "proof-lrat-variable-beyond-refused": 48,
 }
 # Runs a program and writes its peak memory to a file that is open. A child's peak begins with its parent's, so this is a process of its
 # own that has little.

@@ -23,8 +23,8 @@ if hasattr(sys, "set_int_max_str_digits"):
 BLANKS = b" \t\r\n"
 NUMBER = re.compile(rb"-?[0-9]*")
 COMMENT = re.compile(rb"[c%][^\n]*")
-# a proof may bring in so many variables beside the question's, and no number may be larger than the second one
-NEW_VARIABLES, MOST_VARIABLES = 1 << 22, 2147483646
+# a proof may bring in as many variables again as the question has, and so many more; no number may be larger than the second one
+SPARE_VARIABLES, MOST_VARIABLES = 65536, 2147483646
 
 
 class Refused(Exception):
@@ -139,7 +139,7 @@ def question(task, rounds, branch=None):
 
 def most_variables(variables):
     """The largest variable of a proof about a question with so many variables."""
-    return min(variables + NEW_VARIABLES, MOST_VARIABLES)
+    return min(2 * variables + SPARE_VARIABLES, MOST_VARIABLES)
 
 
 def judge(kept, variables, text):

@@ -59,11 +59,11 @@ static QUESTIONS: [Question; 3] = [
             (b"5 1 0 -0\n", Err(HintFault::NotALiteral { line: 1 })),
             (b"5 d -1 0\n", Err(HintFault::NotALiteral { line: 1 })),
             // a new variable's literal is RAT where no clause has its negation
-            (b"5 4194306 0 -1 0\n6 1 0 1 2 0\n7 0 6 3 4 0\n", Ok(())),
-            (b"5 4194306 0 0\n6 1 0 1 2 0\n7 0 6 3 4 0\n", Ok(())),
+            (b"5 65540 0 -1 0\n6 1 0 1 2 0\n7 0 6 3 4 0\n", Ok(())),
+            (b"5 65540 0 0\n6 1 0 1 2 0\n7 0 6 3 4 0\n", Ok(())),
             (b"5 1 0 0\n", Err(HintFault::NoConflict { line: 1 })),
             (
-                b"5 4194307 0 -1 0\n",
+                b"5 65541 0 -1 0\n",
                 Err(HintFault::NoSuchVariable { line: 1 }),
             ),
         ],

@@ -29,7 +29,7 @@ static QUESTIONS: [Question; 3] = [
             (b"1 2 0\n-2 0\n", Ok(())),
             (b"1 2 0\nd 1 2 0\n1 0\n", Ok(())),
             (
-                b"d 1 2 4194307 0\n1 0\n",
+                b"d 1 2 65541 0\n1 0\n",
                 Err(ProofFault::NoSuchVariable { line: 1 }),
             ),
             // what comes behind the contradiction is passed over
@@ -49,12 +49,9 @@ static QUESTIONS: [Question; 3] = [
                 Err(ProofFault::NotImplied { line: 4 }),
             ),
             // a proof may have new variables, up to a number
-            (b"4194306 0\n1 0\n", Ok(())),
-            (
-                b"c\n4194307 0\n",
-                Err(ProofFault::NoSuchVariable { line: 2 }),
-            ),
-            (b"-4194307 0\n", Err(ProofFault::NoSuchVariable { line: 1 })),
+            (b"65540 0\n1 0\n", Ok(())),
+            (b"c\n65541 0\n", Err(ProofFault::NoSuchVariable { line: 2 })),
+            (b"-65541 0\n", Err(ProofFault::NoSuchVariable { line: 1 })),
             (
                 b"99999999999 0\n",
                 Err(ProofFault::NoSuchVariable { line: 1 }),
@@ -161,8 +158,8 @@ fn a_proof_has_its_own_variables(rt: HostRuntime) -> Result<(), Fail> {
     let formula = clauses(alloc, &FOUR)?;
     let mut checker = checker_of(alloc, 2, &formula)?;
     let rows: [(u32, &[u8], u64); 2] = [
-        (1, b"d 1 1 0\n\n-4194306 0\n", 3),
-        (4, b"1 2 -3 4 0\n4194309 0\n", 2),
+        (1, b"d 1 1 0\n\n-65539 0\n", 3),
+        (4, b"1 2 -3 4 0\n65545 0\n", 2),
     ];
     for (variables, proof, line) in rows {
         let found = fed(alloc, &mut checker, variables, proof);

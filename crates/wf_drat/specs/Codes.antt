@@ -1,5 +1,5 @@
 -- Literals as numbers, and which of their lists an assignment satisfies.
-use Rattle.std.specs.Prelude.{ℕ, ◌+◌, ◌*◌, ◌/◌, ◌%◌, ◌^◌, ◌==◌, Bool, not, List, if◌then◌else◌}
+use Rattle.std.specs.Prelude.{ℕ, ◌+◌, ◌*◌, ◌/◌, ◌%◌, ◌==◌, Bool, not, List, if◌then◌else◌}
 use Rattle.std.proofs.Common.{◌≡◌, ◌<◌, zero, suc, refl, arith}
 use Rattle.std.specs.List.{list_all, list_any}
 use Rattle.wf_clauses.specs.Formula.{Assignment, Literal, pos, neg}
@@ -9,9 +9,10 @@ use Rattle.wf_clauses.specs.Formula.{Assignment, Literal, pos, neg}
 abbrev pub most_variables : ℕ
 most_variables = 2147483646
 
--- a proof may bring in so many variables beside those of the clauses
-abbrev pub most_new_variables : ℕ
-most_new_variables = 2 ^ 22
+-- the last variable of a proof, of clauses on the variables from 1 to this number: a proof may bring
+-- in as many again, and some more
+abbrev pub last_variable : ℕ → ℕ
+last_variable variables = 2 * variables + 65536
 
 -- the number of a literal: 2 * v for the variable v, and 2 * v + 1 for its negation
 abbrev pub code_of : Literal → ℕ

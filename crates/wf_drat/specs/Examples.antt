@@ -1,6 +1,7 @@
 -- Worked examples, by computation.
 use Rattle.std.specs.Prelude.{◌≡◌, ℕ, List, [], ◌∷◌, ◌++◌, codes, false, refl}
 use Rattle.wf_clauses.specs.Formula.{neg, pos}
+use Rattle.wf_drat.specs.Codes.{last_variable}
 use Rattle.wf_drat.specs.Text.{End, State, Step, at_start, broken_in, deletion, lemma, open_in, text_of}
 use Rattle.wf_drat.specs.declared.reader.Flaw.TheVariants.{NotALiteral, NoSuchVariable, Binary}
 use Rattle.wf_drat.specs.declared.reader.Reading.TheVariants.{Blank, Number}
@@ -66,3 +67,7 @@ the_mark_of_a_lemma_in_the_binary_form = refl
 
 pub a_byte_of_no_text : end_of (codes "d" ++ 130 ∷ 1 ∷ 0 ∷ []) ≡ broken_in 1 Binary
 a_byte_of_no_text = refl
+
+-- a formula with 12 variables: a proof may have new ones up to this number
+pub last_of_twelve : last_variable 12 ≡ 65560
+last_of_twelve = refl

@@ -3,7 +3,7 @@ use Rattle.std.specs.Prelude.{ℕ, ◌+◌, ◌-◌, ◌*◌, ◌^◌, ◌==◌,
 use Rattle.std.specs.Char.{is_ascii_digit}
 use Rattle.std.specs.Int.{is_in_range}
 use Rattle.wf_clauses.specs.Formula.{Clause, pos, neg}
-use Rattle.wf_drat.specs.Codes.{most_new_variables, most_variables}
+use Rattle.wf_drat.specs.Codes.{last_variable, most_variables}
 use Rattle.wf_drat.specs.declared.reader.Flaw.{Flaw}
 use Rattle.wf_drat.specs.declared.reader.Flaw.TheVariants.{NotALiteral, NoSuchVariable, Binary}
 use Rattle.wf_drat.specs.declared.reader.Reading.{Reading}
@@ -32,7 +32,7 @@ at_start variables = record { variables = min variables most_variables; line = 1
 
 -- where a proof's text begins, of clauses on the variables from 1 to this number
 abbrev pub proof_start : ℕ → State
-proof_start variables = at_start (variables + most_new_variables)
+proof_start variables = at_start (last_variable variables)
 
 -- ---- bytes
 

@@ -12,5 +12,5 @@ mod digits;
 mod literal;
 mod reader;
 
-pub use literal::{Code, Literal, MOST_NEW_VARIABLES, MOST_VARIABLES};
+pub use literal::{Code, Literal, MOST_VARIABLES, SPARE_VARIABLES, last_variable};
 pub use reader::{Flaw, Reader, Reading, Turn};

@@ -1,8 +1,8 @@
 //! Literals, and the numbers that stand for them.
 
-ghost use Rattle.std.specs.Prelude.{◌≡◌, ◌≤◌, if◌then◌else◌};
+ghost use Rattle.std.specs.Prelude.{◌≡◌, ◌≤◌, if◌then◌else◌, min};
 ghost use Rattle.wf_clauses.specs.Formula.{pos, neg};
-ghost use Rattle.wf_drat.specs.Codes.{code_of, most_variables};
+ghost use Rattle.wf_drat.specs.Codes.{code_of, last_variable, most_variables};
 
 use std::marker::Model;
 
@@ -12,8 +12,18 @@ pub type Code = u32;
 /// The largest number that a variable may have.
 pub const MOST_VARIABLES: u32 = 2_147_483_646;
 
-/// A proof may bring in so many variables beside those of the clauses.
-pub const MOST_NEW_VARIABLES: u32 = 1 << 22;
+/// A proof may bring in so many variables beside as many as the clauses have.
+pub const SPARE_VARIABLES: u32 = 65_536;
+
+/// The largest number that a variable of a proof may have, of clauses on the variables from 1 to
+/// this number: a proof may bring in as many variables again, and [`SPARE_VARIABLES`] more. So a
+/// short proof can't ask for much memory.
+pub fn last_variable(variables: u32) -> u32
+    ensures { result ≡ min (last_variable variables) most_variables }
+{
+    let twice = variables.saturating_mul(2);
+    twice.saturating_add(SPARE_VARIABLES).min(MOST_VARIABLES)
+}
 
 /// A variable, by its number from 1 on, or its negation.
 #[derive(Clone, Copy, Debug, PartialEq, Eq)]

@@ -1,7 +1,7 @@
 -- What a checker makes of a proof's bytes.
 use Rattle.std.specs.Prelude.{◌≡◌, ◌⊎◌, ℕ, ◌+◌, List, [], ◌∷◌, if◌then◌else◌}
 use Rattle.wf_clauses.specs.Formula.{Clause}
-use Rattle.wf_drat.specs.Codes.{most_new_variables}
+use Rattle.wf_drat.specs.Codes.{last_variable}
 use Rattle.wf_lrat_text.specs.Text.{End, State, Step, Text, addition, at_start, broken_in, deletion, open_in, text_of}
 use Rattle.wf_lrat_text.specs.declared.reader.HintFlaw.{HintFlaw}
 use Rattle.wf_lrat_text.specs.declared.reader.HintFlaw.TheVariants as flaw
@@ -15,7 +15,7 @@ use Rattle.wf_lrat.specs.declared.proof.HintFault.TheVariants.{NotALiteral, NoSu
 -- where a proof's text begins, of clauses on the variables from 1 to this
 -- number: it may bring in further ones
 abbrev pub proof_start : ℕ → State
-proof_start variables = at_start (variables + most_new_variables)
+proof_start variables = at_start (last_variable variables)
 
 -- a text is read to its end, where this is known; or the contradiction is
 -- found; or the text is refused

@@ -29,5 +29,5 @@ mod verdict;
 pub use checker::{HintChecker, MOST_ID_GROWTH};
 pub use proof::{HintFault, HintProof};
 pub use verdict::HintVerdict;
-pub use wf_drat::{Literal, MOST_NEW_VARIABLES, MOST_VARIABLES};
+pub use wf_drat::{Literal, MOST_VARIABLES, SPARE_VARIABLES, last_variable};
 pub use wf_lrat_text::Hint;

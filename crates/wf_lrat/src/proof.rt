@@ -20,7 +20,7 @@ use crate::checker::HintChecker;
 use crate::verdict::HintVerdict;
 use std::alloc::{AllocError, Global};
 use std::marker::Model;
-use wf_drat::MOST_NEW_VARIABLES;
+use wf_drat::last_variable;
 use wf_lrat_text::{HintFlaw, HintPart, HintReader, HintTurn};
 
 /// Why a proof is refused. Lines are counted from 1.
@@ -31,8 +31,8 @@ pub enum HintFault {
         /// The number of the line.
         line: u64,
     },
-    /// This line has a variable whose number is larger than those of the clauses' variables and of
-    /// the [`MOST_NEW_VARIABLES`] that a proof may bring in.
+    /// This line has a variable whose number is larger than the [`last_variable`] of a proof of these
+    /// clauses.
     NoSuchVariable {
         /// The number of the line.
         line: u64,
@@ -92,13 +92,13 @@ impl Model for HintProof {
 }
 
 impl HintProof {
-    /// A proof of which nothing was read, of clauses on the variables from 1 to this number. It may
-    /// bring in the next [`MOST_NEW_VARIABLES`] variables.
+    /// A proof of which nothing was read, of clauses on the variables from 1 to this number. Its
+    /// own variables go up to the [`last_variable`].
     pub fn new(alloc: Global, variables: u32) -> HintProof
         ensures { result ≡ proof_start variables }
     {
         HintProof {
-            reader: HintReader::new(alloc, variables.saturating_add(MOST_NEW_VARIABLES)),
+            reader: HintReader::new(alloc, last_variable(variables)),
         }
     }
 

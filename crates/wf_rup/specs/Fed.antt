@@ -5,7 +5,7 @@ use Rattle.wf_rup.specs.Deleted.{Deletes, HasAlike, IsWithout}
 use Rattle.wf_rup.specs.Kept.{AddsAtMost, IsKept, KnowsStill}
 use Rattle.wf_rup.specs.Rat.{IsRedundant, IsUnjustified}
 use Rattle.wf_rup.specs.Seen.{Known}
-pub use Rattle.wf_drat.specs.Codes.{most_new_variables}
+pub use Rattle.wf_drat.specs.Codes.{last_variable}
 pub use Rattle.wf_drat.specs.Text.{proof_start}
 use Rattle.wf_drat.specs.Text.{State, Step, Text, broken_in, deletion, lemma, open_in, state_after, step_of, text_of}
 use Rattle.wf_rup.specs.Unit.{DoesNotFollow}

@@ -34,5 +34,5 @@ mod whole;
 pub use checker::Checker;
 pub use laws::{what_follows_is_entailed, what_is_justified_is_redundant};
 pub use proof::{Proof, ProofFault};
-pub use wf_drat::{Literal, MOST_NEW_VARIABLES, MOST_VARIABLES};
+pub use wf_drat::{Literal, MOST_VARIABLES, SPARE_VARIABLES, last_variable};
 pub use whole::check_proof;

@@ -14,7 +14,7 @@ ghost use Rattle.wf_drat.specs.declared.reader.Turn.TheVariants.{Ends};
 use crate::checker::Checker;
 use std::alloc::{AllocError, Global};
 use std::marker::Model;
-use wf_drat::{Flaw, MOST_NEW_VARIABLES, Reader, Turn};
+use wf_drat::{Flaw, Reader, Turn, last_variable};
 
 /// Why a proof is refused. Lines are counted from 1.
 #[derive(Clone, Copy, Debug, PartialEq, Eq)]
@@ -24,8 +24,8 @@ pub enum ProofFault {
         /// The number of the line.
         line: u64,
     },
-    /// This line has a variable whose number is larger than those of the clauses' variables and of
-    /// the [`MOST_NEW_VARIABLES`] that a proof may bring in.
+    /// This line has a variable whose number is larger than the [`last_variable`] of a proof of these
+    /// clauses.
     NoSuchVariable {
         /// The number of the line.
         line: u64,
@@ -76,13 +76,13 @@ impl Model for Proof {
 }
 
 impl Proof {
-    /// A proof of which nothing was read, of clauses on the variables from 1 to this number. It may
-    /// bring in the next [`MOST_NEW_VARIABLES`] variables.
+    /// A proof of which nothing was read, of clauses on the variables from 1 to this number. Its
+    /// own variables go up to the [`last_variable`].
     pub fn new(alloc: Global, variables: u32) -> Proof
         ensures { result ≡ proof_start variables }
     {
         Proof {
-            reader: Reader::new(alloc, variables.saturating_add(MOST_NEW_VARIABLES)),
+            reader: Reader::new(alloc, last_variable(variables)),
         }
     }
 
