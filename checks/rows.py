@@ -7,6 +7,7 @@ A row is a folder: args (a command line's words), stdin, stdout or stdout.sha256
 The args may name a file of another row, as `../ROW/task.json`. What is not there is empty. All of standard error is compared, the
 argument parser's own text and the notes below it too; the lines `settled N of M`, which workers tell in any order, are sorted first. The
 peak memory of a run has to stay below MEGABYTES, or below what LARGER has for its row: no contract bounds how much memory a run takes.
+Each run has a stack of STACK bytes.
 The last line is `N passed, M failed`.
 """
 import concurrent.futures
@@ -21,6 +22,8 @@ import common
 ROWS = common.ROOT / "tests/rows"
 SECONDS = 120
 MEGABYTES = 24
+# bytes of the stack that each run has, and each of its threads: docs/FORMAT.md says that these are enough
+STACK = 128 << 10
 # rows that may take more
 LARGER = {
     "solve-one-process-256-values-account": 80, "views-agreement-4-3-r3": 64, "views-agreement-4-3-first-block-2-r4": 96,
@@ -30,10 +33,11 @@ LARGER = {
 # Runs a program and writes its peak memory to a file that is open. A child's peak begins with its parent's, so this is a process of its
 # own that has little.
 MEASURE = """
-import os, sys
+import os, resource, sys
 child = os.fork()
 if not child:
-    os.execv(sys.argv[2], sys.argv[2:])
+    resource.setrlimit(resource.RLIMIT_STACK, (int(sys.argv[2]),) * 2)
+    os.execv(sys.argv[3], sys.argv[3:])
 _, status, used = os.wait4(child, 0)
 os.write(int(sys.argv[1]), b"%d" % used.ru_maxrss)
 os._exit(os.waitstatus_to_exitcode(status) & 255)
@@ -62,7 +66,7 @@ def run(words, given, folder):
     """Status, standard output, standard error and peak memory in megabytes of a run; None if it doesn't end."""
     peak, to = os.pipe()
     with open(peak, "rb") as told_peak:
-        measure = [sys.executable, "-S", "-E", "-c", MEASURE, str(to), common.program(), *words]
+        measure = [sys.executable, "-S", "-E", "-c", MEASURE, str(to), str(STACK), common.program(), *words]
         how = {"stdin": subprocess.PIPE, "stdout": subprocess.PIPE, "stderr": subprocess.PIPE, "cwd": folder}
         with subprocess.Popen(measure, pass_fds=[to], start_new_session=True, **how) as ran:
             os.close(to)
