@@ -40,6 +40,16 @@ def of_words(proved):
     return Known(-1 if none is None else int(none), None if at is None else int(at))
 
 
+def of_theory(theory):
+    """What the column of theory says. Of `some` number of rounds it isn't known which is enough."""
+    return Known(-1, int(theory.removeprefix("by "))) if theory.startswith("by ") else of_words("not decided" if theory == "some" else theory)
+
+
+def stronger(one, other):
+    """What both say together."""
+    return other.with_harder(one).with_easier(one)
+
+
 class Task(NamedTuple):
     """What two tasks are compared by."""
     processes: int
