@@ -4,7 +4,7 @@
     checks/gallery.py             each row of gallery/rows.tsv
     checks/gallery.py --short     the rows that take under a second: a minute or so in all. Those whose report is long are shown to `verify` alone
     checks/gallery.py --all       also the second opinion on each report, however long it takes
-    checks/gallery.py --files     only whether the task files are what tools/tasks.py makes
+    checks/gallery.py --files     only whether the task files are what tools/tasks.py makes, and no row is weaker than others make it
     checks/gallery.py NAME..      the rows of these tasks
 
 A row is right where the program's answer is that of the table and doesn't contradict the theory's; points, executions and
@@ -19,7 +19,8 @@ SAT solver answered has what it wrote in `answers`: `wfcheck proof` or `wfcheck 
 Each task is then asked about by `wfcheck obstruction`. It has to find an obstruction if and only if the table of obstructions has a row
 of the task: theory says `never` of it, and `answers` has its obstruction. `wfcheck verify` and the second opinion have to accept both
 obstructions, and they have the numbers of the table. What a task's cell says is proved here has to be what its rows and its obstruction
-come to. Ends in `N passed, M failed`, with status 1 where one failed."""
+come to, and not less than what follows from another task's cell (consequences.py). Ends in `N passed, M failed`, with status 1 where one
+failed."""
 import json
 import re
 import subprocess
@@ -28,6 +29,7 @@ import tempfile
 import time
 
 import common
+import consequences
 import formula
 import independent
 import known
@@ -320,7 +322,11 @@ def main():
     shown = "short" if words.short else "all" if words.all else ""
     good, bad = files()
     print(f"{len(good)} task files are as tasks.py makes them, {len(bad)} are not: {', '.join(bad) or 'none'}")
-    passed, failed, not_asked = len(good), len(bad), 0
+    strong, weak = consequences.faults([it for it in known.lines() if it.rounds == known.EVERY])
+    for why in weak:
+        print(why)
+    print(f"{strong} cells of what is proved, and planted ones, are as strong as others make them, {len(weak)} are not")
+    passed, failed, not_asked = len(good) + strong, len(bad) + len(weak), 0
     for row in words.rows:
         if words.short and row.time != "< 1 s" and not kept(row):
             continue

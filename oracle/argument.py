@@ -6,6 +6,7 @@ It is written from the definitions in crates/wf_argument/specs, crates/wf_argume
 and shares no code with the program. It takes the report as it is: `second_opinion.py` says whether it holds."""
 import collections
 import itertools
+import signal
 import sys
 
 from reports import Unreadable, read
@@ -396,4 +397,5 @@ def main():
 
 
 if __name__ == "__main__":
+    signal.signal(signal.SIGPIPE, signal.SIG_DFL)
     main()

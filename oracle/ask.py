@@ -181,5 +181,6 @@ if __name__ == "__main__":
         sys.exit(main())
     except Exception as error:
         # a status of Python's own would mean an answer
+        sys.stdout = open(os.devnull, "w")
         print(f"ask.py: {type(error).__name__}: {error}", file=sys.stderr)
         sys.exit(STATUS[None])

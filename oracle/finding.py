@@ -15,6 +15,7 @@ import argparse
 import collections
 import itertools
 import math
+import signal
 import sys
 
 sys.dont_write_bytecode = True
@@ -352,4 +353,5 @@ def main():
 
 
 if __name__ == "__main__":
+    signal.signal(signal.SIGPIPE, signal.SIG_DFL)
     sys.exit(main())

@@ -7,6 +7,7 @@ minimal forbidden pattern: values at some of its places that no allowed tuple ha
 tuple has."""
 import argparse
 import itertools
+import signal
 import sys
 
 sys.dont_write_bytecode = True
@@ -61,4 +62,5 @@ def main():
 
 
 if __name__ == "__main__":
+    signal.signal(signal.SIGPIPE, signal.SIG_DFL)
     main()

@@ -14,6 +14,7 @@ branches, and what a search of one branch writes, or of the whole.
 It shares nothing with the program, and is slow.
 """
 import itertools
+import signal
 import sys
 
 import formula
@@ -248,4 +249,5 @@ def main():
 
 
 if __name__ == "__main__":
+    signal.signal(signal.SIGPIPE, signal.SIG_DFL)
     sys.stdout.write(main())

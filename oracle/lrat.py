@@ -7,6 +7,7 @@ hints, looked at one by one with all its literals false, leave one literal each 
 follow is kept if it is a resolution asymmetric tautology (RAT) on its first literal. Each kept clause with that literal's negation has a
 group of hints then, unless it is true: a negative one that names the clause, and those behind it. The status is 0 if the proof is accepted, else 2."""
 import re
+import signal
 import sys
 from typing import NamedTuple
 
@@ -203,4 +204,5 @@ def judge(ledger, variables, text):
 
 
 if __name__ == "__main__":
+    signal.signal(signal.SIGPIPE, signal.SIG_DFL)
     sys.exit(rup.main("lrat.py", __doc__, lambda clauses, *proof: judge(Ledger(clauses), *proof)))

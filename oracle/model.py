@@ -7,6 +7,7 @@ import argparse
 import json
 import pathlib
 import re
+import signal
 import sys
 
 import second_opinion
@@ -75,4 +76,5 @@ def main():
 
 
 if __name__ == "__main__":
+    signal.signal(signal.SIGPIPE, signal.SIG_DFL)
     sys.exit(main())

@@ -8,6 +8,7 @@ obstructions.py. Its status is 0 where the report is accepted, else 2."""
 import argparse
 import itertools
 import pathlib
+import signal
 import sys
 
 import obstructions
@@ -188,4 +189,5 @@ def main():
 
 
 if __name__ == "__main__":
+    signal.signal(signal.SIGPIPE, signal.SIG_DFL)
     sys.exit(main())

@@ -6,6 +6,7 @@ gallery/tasks. A line for each certificate says what was accepted or why it was 
 Parts of branches (.report, .map) and case proofs are not judged: no script here reads them. The last line counts. Status 0: all
 certificates are accepted. 1: one is refused. 3: there is none, or one was not judged. 2: the words are refused."""
 import argparse
+import os
 import pathlib
 import re
 import subprocess
@@ -91,5 +92,6 @@ if __name__ == "__main__":
         sys.exit(main())
     except Exception as error:
         # a status of Python's own would mean a refusal
+        sys.stdout = open(os.devnull, "w")
         print(f"review.py: {type(error).__name__}: {error}", file=sys.stderr)
         sys.exit(3)

@@ -11,6 +11,7 @@ import collections
 import json
 import pathlib
 import re
+import signal
 import sys
 
 import formula
@@ -184,4 +185,5 @@ def main(name, told, judged):
 
 
 if __name__ == "__main__":
+    signal.signal(signal.SIGPIPE, signal.SIG_DFL)
     sys.exit(main("rup.py", __doc__, lambda clauses, *proof: judge(Kept(clauses), *proof)))

@@ -12,6 +12,7 @@ is to count at most 20,000."""
 import argparse
 import itertools
 import random
+import signal
 import sys
 
 sys.dont_write_bytecode = True
@@ -210,4 +211,5 @@ def main():
 
 
 if __name__ == "__main__":
+    signal.signal(signal.SIGPIPE, signal.SIG_DFL)
     main()

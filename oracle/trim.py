@@ -3,6 +3,7 @@
 
 It goes backwards through the lines, as proof checkers trim clausal proofs. It takes the report as it is, and nobody has proved it:
 `wfcheck verify` and `second_opinion.py` say of either report whether it holds."""
+import signal
 import sys
 
 from reports import Unreadable, read
@@ -108,4 +109,5 @@ def main():
 
 
 if __name__ == "__main__":
+    signal.signal(signal.SIGPIPE, signal.SIG_DFL)
     main()

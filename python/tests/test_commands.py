@@ -11,6 +11,15 @@ SECONDS = re.compile(r"\d+\.\d\d s")
 DOOR = "import sys\nfrom wfcheck import doors\nsys.argv[0] = 'wfcheck-{0}'\nsys.exit(doors.{0}())"
 
 
+def into_a_closed_pipe(*words):
+    """The status of a script whose output nobody reads, and what it says on standard error."""
+    reader, writer = os.pipe()
+    os.close(reader)
+    with open(writer, "wb") as closed:
+        run = subprocess.run([sys.executable, *map(str, words)], stdout=closed, stderr=subprocess.PIPE, env={**os.environ, "PYTHONPATH": str(PYTHON)}, check=False)
+    return run.returncode, run.stderr
+
+
 class WithoutProgram(Case):
     """What needs no program."""
 
@@ -42,12 +51,16 @@ class WithoutProgram(Case):
     def test_task_lists_into_a_closed_pipe(self):
         """As `--list | head` does: the command ends, and tells no traceback."""
         for door in ([ROOT / "tools/tasks.py"], ["-m", "wfcheck", "task"]):
-            reader, writer = os.pipe()
-            os.close(reader)
-            words = [sys.executable, *map(str, door), "--list"]
-            run = subprocess.run(words, stdout=writer, stderr=subprocess.PIPE, env={**os.environ, "PYTHONPATH": str(PYTHON)}, check=False)
-            os.close(writer)
-            self.assertEqual((run.returncode, run.stderr), (-signal.SIGPIPE, b""))
+            self.assertEqual(into_a_closed_pipe(*door, "--list"), (-signal.SIGPIPE, b""))
+
+    def test_scripts_write_into_a_closed_pipe(self):
+        task = TASKS / "consensus-2.json"
+        for words in (["oracle/second_opinion.py", task, ROOT / "gallery/answers/consensus-2.obstruction"], ["oracle/finding.py", task],
+                      ["oracle/formula.py", task, 1], ["oracle/independent.py", "executions", task, 1]):
+            self.assertEqual(into_a_closed_pipe(ROOT / words[0], *words[1:]), (-signal.SIGPIPE, b""), words)
+        self.assertEqual(into_a_closed_pipe("-m", "wfcheck", "--help"), (-signal.SIGPIPE, b""))
+        status, said = into_a_closed_pipe(ROOT / "oracle/ask.py", task, 0)
+        self.assertEqual((status, said.split(b"\n")[-2]), (3, b"ask.py: BrokenPipeError: [Errno 32] Broken pipe"))
 
     def test_finding_without_a_modulus(self):
         """The oracle writes an obstruction by the first modulus that has a balance, or says that no modulus has one."""

@@ -3,6 +3,7 @@
 `.. names TASK < TEXT` and `.. rules TASK REPORT` are wfcheck-names and wfcheck-rules."""
 import argparse
 import pathlib
+import signal
 import sys
 from typing import List
 
@@ -37,6 +38,7 @@ def main(words: List[str]) -> int:
         from .ruling import main as ruled
         return ruled.main(words[1:], "python3 -m wfcheck rules")
     if words[:1] != ["ask"]:
+        signal.signal(signal.SIGPIPE, signal.SIG_DFL)
         print(USAGE, file=sys.stdout if words[:1] == ["--help"] else sys.stderr)
         return 0 if words[:1] == ["--help"] else REFUSED
     try:
@@ -61,6 +63,7 @@ def restricted(listed: List[str]) -> int:
                                     "processes alone: the first of them is process 0 there, the next process 1, and so on.")
     words.add_argument("--processes", required=True, type=numbers, metavar="P,..", help="the processes, such as 0,2")
     kept = words.parse_args(listed).processes
+    signal.signal(signal.SIGPIPE, signal.SIG_DFL)
     try:
         sys.stdout.write(restrict(Task("task", sys.stdin.read()), kept).text)
     except (NoTask, UnicodeDecodeError):

@@ -3,6 +3,8 @@
 First `wfcheck obstruction` looks for an obstruction of the task, once. If it finds one, and `verify` accepts it, the task has no map after
 any number of rounds, and nothing else is asked. If it finds none, that says nothing about the task.
 
+Reports that are given by --hint come next. One that `verify` accepts of this task after these rounds is the answer, whoever wrote it.
+
 Then the search is asked about some of the processes alone, the fewest first, in a tenth of the time. If they have no map, the whole has none:
 the lines of their refutation are numbered as those of the whole task, and `verify` has to accept that report.
 
@@ -32,6 +34,8 @@ The file of a task is read once, and all is about these bytes. If the file has c
                looks for no obstruction
     --no-restrict
                asks about no smaller set of processes
+    --hint     a report that may be the answer, as of another run or of another program; it may be given several times. A report that `verify`
+               refuses, as one about other rounds, says nothing. Not with branches or cases
     --clauses  a formula with more clauses is not shown to a solver; 20 million if it isn't given
     --memory   how many GB of memory each process gets that is started, 4 if it isn't given
     --disk     how many GB each file may have that a process writes, 4 if it isn't given

@@ -20,7 +20,7 @@ from ..gallery import gallery
 from ..running import VARIABLE, NoProgram, linter, program
 from ..running import refusal as refusal_of
 from . import __doc__ as about
-from . import arrays, branches, cases, fewer, never, questions, runs, table
+from . import arrays, branches, cases, fewer, hints, never, questions, runs, table
 from .given import Given, in_line
 from .notes import Notes, Room, keep
 from .questions import FEWER_ROUNDS, PLACES, SEARCH, SEARCH_ALONE, Answer, Attempt, Question, first
@@ -57,6 +57,7 @@ def parsed(listed: List[str], name: str) -> Tuple[argparse.ArgumentParser, argpa
     words.add_argument("--keep", type=pathlib.Path)
     words.add_argument("--no-obstruction", action="store_true")
     words.add_argument("--no-restrict", action="store_true")
+    words.add_argument("--hint", type=pathlib.Path, action="append", default=[])
     words.add_argument("--jobs", type=int)
     words.add_argument("--table", type=pathlib.Path)
     words.add_argument("--split")
@@ -87,6 +88,10 @@ def asked(listed: List[str], command: List[str], name: str) -> argparse.Namespac
     found.files = [file_of(words, name) for name in found.tasks]
     if (found.by_branch or found.split) and len(found.rounds) > 1:
         words.error(f"{'cases' if found.split else 'branches'} are those of one number of rounds, and not of FIRST..LAST")
+    if (found.by_branch or found.split) and found.hint:
+        words.error("--hint is about whole questions, and not about branches or cases")
+    if missing := next((it for it in found.hint if not it.is_file()), None):
+        words.error(f"--hint: {missing} is no file")
     if (found.by_branch or found.split) and len(found.files) > 1:
         words.error(f"{'cases' if found.split else 'branches'} are those of one task: ask about one after another")
     if found.solver not in (None, SEARCH_ALONE):
@@ -386,6 +391,8 @@ def decided(words: argparse.Namespace, rounds: int, solver: Optional[str], room:
     with room.attempt() as made:
         scope = Scope(words.limits)
         attempt = Attempt(Question(words.task, rounds), made, scope, clock)
+        if answer := questions.answered("the hint", lambda: hints.by_hints(attempt, words.hint)):
+            return kept(words, answer)
         if not words.no_restrict and (answer := questions.answered("the search on fewer", lambda: fewer.none_of_fewer(attempt))):
             return kept(words, answer)
         those = {SEARCH: attempt.by_search}
