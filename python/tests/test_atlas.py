@@ -10,6 +10,7 @@ from .support import ROOT, Case, known, needs_program, wfcheck
 
 import classes as oracle
 import task_file
+import trying
 import walks
 from wfcheck.atlas import classes, deciding, drawing, files, main, shapes, symmetric, tables, totals
 
@@ -126,6 +127,17 @@ class Families(Case):
         self.assertEqual({it: walks.answer(known(it).text.encode()) for it in answers}, answers)
         with self.assertRaises(task_file.Refused):
             walks.answer(known("consensus-3").text.encode())
+
+
+    def test_trying(self):
+        """Tasks of the gallery, whose least numbers of rounds are known by theory."""
+        for name, answers in {"consensus-2": [False, False], "quasi-consensus-2": [False, True], "set-agreement-3-2": [False, False],
+                              "renaming-3-names-5": [False, False, True]}.items():
+            task, rules = task_file.read(known(name).text.encode())
+            made = [trying.Trying(task, rounds) for rounds in range(len(answers))]
+            found = [it.map(rules, sorted(it.made.values)) for it in made]
+            self.assertEqual([it is not None for it in found], answers)
+            self.assertEqual([it.made.wrong_map(values) for it, values in zip(made, found) if values], [None] * sum(answers))
 
 
 class Tables(Case):

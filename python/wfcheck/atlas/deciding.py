@@ -1,9 +1,11 @@
 """What the program answers to a task, for every number of rounds. Each answer is accepted by its checks."""
 import pathlib
 import tempfile
-from typing import Dict, NamedTuple, Optional
+from typing import Dict, List, NamedTuple, Optional
 
 from ..answers import obstruction_of
+from ..deciding import ask
+from ..outcomes import From, MapAt, NoneUpTo
 from ..running import NoAnswer, Refused, Word, run
 from ..tasks import Task, write
 
@@ -11,16 +13,19 @@ NAME = "task"
 NEVER, EVERY = "never", "accepted none at every number of rounds"
 # the refusals that say that a question is too large, or that its search gave up
 GAVE_UP = {17, 60}
+# how many seconds a search has
+SEARCH = 2
 
 
 class Line(NamedTuple):
-    """A line of a table: the code of a task, the answer, and of an obstruction the nodes in preorder, and the modulus and the number of
-    multipliers of each balance."""
+    """A line of a table: the code of a task, and the answer. Of an obstruction it has the nodes in preorder, and the modulus and the number of
+    multipliers of each balance; and it has the numbers of rounds about which the search had no answer in time, so `ask` was asked."""
     code: str
     answer: str
     nodes: str = ""
     moduli: str = ""
     multipliers: str = ""
+    asked: str = ""
 
 
 class WrongAnswer(Exception):
@@ -28,16 +33,17 @@ class WrongAnswer(Exception):
 
 
 class Asked:
-    """A task in a file, about which the program is asked. No run takes longer than so many seconds."""
+    """A task in a file, about which the program is asked. No run takes longer than so many seconds, and a search has fewer."""
 
     def __init__(self, task: Task, folder: pathlib.Path, seconds: float) -> None:
         self.task, self.seconds = task, seconds
         self.file = write(Task(NAME, task.text), folder)
+        self.asked: List[int] = []
 
-    def wrote(self, *words: Word) -> Optional[str]:
+    def wrote(self, seconds: float, *words: Word) -> Optional[str]:
         """What a run of the program wrote about the task; None if it gave up or had no time."""
         try:
-            return run(words, self.task.text, self.seconds).written
+            return run(words, self.task.text, seconds).written
         except NoAnswer:
             return None
         except Refused as refused:
@@ -57,7 +63,7 @@ class Asked:
 
     def obstruction(self) -> Optional[Line]:
         """The line of an obstruction, if one is found and accepted."""
-        text = self.wrote("obstruction")
+        text = self.wrote(self.seconds, "obstruction")
         if not text or not self.is_accepted(text, EVERY):
             return None
         nodes = obstruction_of(self.task, text).nodes
@@ -66,8 +72,18 @@ class Asked:
                     " ".join(str(len(it.lines)) for it in leaves))
 
     def has_map(self, rounds: int) -> Optional[bool]:
-        """Whether there is a map after some rounds, by an answer of the search that is accepted; None if there is no answer."""
-        report = self.wrote("solve", "--rounds", rounds, "--workers", 1)
+        """Whether there is a map after some rounds, by an answer that is accepted; None if there is none. The search is asked first. If it has
+        no end in time, `ask` is asked, which has a SAT solver if one is on the path."""
+        found = self.searched(rounds)
+        if found is not None:
+            return found
+        self.asked.append(rounds)
+        answer = ask(self.task, rounds, seconds=self.seconds, use_obstructions=False)
+        return True if isinstance(answer, (From, MapAt)) else False if isinstance(answer, NoneUpTo) else None
+
+    def searched(self, rounds: int) -> Optional[bool]:
+        """What the search says of some rounds, if `verify` accepts it."""
+        report = self.wrote(SEARCH, "solve", "--rounds", rounds, "--workers", 1)
         if not report:
             return None
         kind = "none" if "\nanswer none\n" in report else "map"
@@ -85,7 +101,7 @@ class Asked:
             if True in found.values():
                 break
             found[rounds] = self.has_map(rounds)
-        return Line(self.task.name, summed(found))
+        return Line(self.task.name, summed(found), asked=" ".join(map(str, self.asked)))
 
 
 def summed(found: Dict[int, Optional[bool]]) -> str:

@@ -5,7 +5,8 @@
     tools/atlas --totals       writes how many tasks of each table have which answer, as gallery/atlas/README.md shows them
 
 A table has a line for each task: its code, the answer in the words of tools/ask, and of an obstruction the nodes, and the modulus and the number
-of multipliers of each balance. Each answer was accepted by `wfcheck verify`.
+of multipliers of each balance. Each answer was accepted by `wfcheck verify`. If a search has no end within two seconds, tools/ask is asked, which
+has a SAT solver if one is on the path; the last column has these numbers of rounds, and `wfcheck proof` accepted a solver's proofs.
 
 What is decided stands in NAME.tsv.part until the table is whole. If the run is stopped, the next goes on from there, if the program is the same.
 The status is 0 if all is done, and 2 if the words name nothing, a certificate is not accepted or a file can't be written."""
