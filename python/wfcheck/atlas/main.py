@@ -14,6 +14,7 @@ import argparse
 import concurrent.futures
 import hashlib
 import pathlib
+import signal
 import sys
 import time
 from typing import Dict, Iterator, List, Sequence
@@ -31,6 +32,8 @@ TOLD = 10
 def main(words: List[str], folder: pathlib.Path) -> int:
     """Does what the words say, with tables in a folder, and returns the status."""
     asked = arguments(words, folder)
+    # a run that is told to end waits for what it has begun, so that no search is left alone
+    signal.signal(signal.SIGTERM, lambda number, _frame: sys.exit(128 + number))
     try:
         if asked.task:
             sys.stdout.write(task_of(asked.task).text)
