@@ -1,9 +1,9 @@
 #!/usr/bin/env python3
 """trying.py TASK ROUNDS: whether a task has a decision map, by trying.
 
-Each point gets each value in turn. If an execution of which all points have values decides what is not allowed, the value is not the point's,
-and the next is tried. This is for the smallest complexes alone: three processes with two values after one round have 12 points. With a larger
-one the script may never end. Its last line is `map` or `none`."""
+Each point gets each value in turn. If an execution of which all points have values decides what is not allowed, the value is not the
+point's, and the next is tried. This is for the smallest complexes alone: three processes with two values after one round have 12
+points. With a larger one the script may never end. Its last line is `map` or `none`."""
 import argparse
 import sys
 
@@ -42,7 +42,8 @@ class Trying:
 
 
 def main():
-    words = argparse.ArgumentParser(description=__doc__, formatter_class=argparse.RawDescriptionHelpFormatter, usage="trying.py TASK ROUNDS")
+    words = argparse.ArgumentParser(
+        description=__doc__, formatter_class=argparse.RawDescriptionHelpFormatter, usage="trying.py TASK ROUNDS")
     words.add_argument("task")
     words.add_argument("rounds", type=int, choices=range(second_opinion.MOST_ROUNDS + 1), metavar="ROUNDS")
     asked = words.parse_args()

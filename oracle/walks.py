@@ -1,13 +1,13 @@
 #!/usr/bin/env python3
 """walks.py TASK: the least number of rounds after which a task of two processes has a decision map, or that there is none.
 
-After r rounds an input edge is a path of 3^r edges, from the one process alone to the other alone. Its executions are the edges, and who
-stands at their ends takes turns. A decision map puts the path on a walk in the graph of the tuples that are allowed at the edge. The walk goes
-from what the one decides alone to what the other does. A walk may go back and forth on an edge, so a shorter one will do if its length is odd,
-and it is. Points in the middle of a path are in that path alone. So a map is a choice of a value for each process alone with an input, such that
-each input edge has a walk between its two values of at most 3^r edges.
+After r rounds an input edge is a path of 3^r edges, from the one process alone to the other alone. Its executions are the edges, and
+who stands at their ends takes turns. A decision map puts the path on a walk in the graph of the tuples that are allowed at the edge.
+The walk goes from what the one decides alone to what the other does. A walk may go back and forth on an edge, so a shorter one will do
+if its length is odd, and it is. Points in the middle of a path are in that path alone. So a map is a choice of a value for each process
+alone with an input, such that each input edge has a walk between its two values of at most 3^r edges.
 
-The script goes through all choices. It is for tasks that are not symmetric, and without first blocks. Its last line is `from R` or `never`."""
+The script goes through all choices. It is for tasks that are not symmetric, and have no first block. It writes `from R` or `never`."""
 import itertools
 import pathlib
 import sys

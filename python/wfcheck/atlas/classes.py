@@ -1,8 +1,8 @@
 """All tasks of a shape with one facet, up to symmetry: permutations of the processes, and of the values of each process.
 
-A task is listed if it is pruned: each tuple of a face is part of one that is allowed at each larger simplex, and something is allowed at each
-simplex. Others have decision maps after the same rounds as what is left of them, if all that no larger simplex goes on from is taken away.
-Of the tasks that symmetries make of one, the one with the least masks is listed, in the order of its code."""
+A task is listed if it is pruned: each tuple of a face is part of one that is allowed at each larger simplex, and something is allowed
+at each simplex. Others have decision maps after the same rounds as what is left of them, if all that no larger simplex goes on from is
+taken away. Of the tasks that symmetries make of one, the one with the least masks is listed, in the order of its code."""
 import itertools
 from typing import Iterator, List, NamedTuple, Sequence, Tuple
 

@@ -18,8 +18,8 @@ SEARCH = 2
 
 
 class Line(NamedTuple):
-    """A line of a table: the code of a task, and the answer. Of an obstruction it has the nodes in preorder, and the modulus and the number of
-    multipliers of each balance; and it has the numbers of rounds about which the search had no answer in time, so `ask` was asked."""
+    """A line of a table: the code of a task, and the answer. Of an obstruction it has the nodes in preorder, and the modulus and the number
+    of multipliers of each balance; and it has the numbers of rounds about which the search had no answer in time, so `ask` was asked."""
     code: str
     answer: str
     nodes: str = ""
@@ -72,8 +72,8 @@ class Asked:
                     " ".join(str(len(it.lines)) for it in leaves))
 
     def has_map(self, rounds: int) -> Optional[bool]:
-        """Whether there is a map after some rounds, by an answer that is accepted; None if there is none. The search is asked first. If it has
-        no end in time, `ask` is asked, which has a SAT solver if one is on the path."""
+        """Whether there is a map after some rounds, by an answer that is accepted; None if there is none. The search is asked first. If it
+        has no end in time, `ask` is asked, which has a SAT solver if one is on the path."""
         found = self.searched(rounds)
         if found is not None:
             return found

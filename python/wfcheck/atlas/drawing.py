@@ -1,8 +1,8 @@
 """Tasks that are drawn at random, each by a seed and its number.
 
-First come three densities: of the largest simplices, of the faces between, and of the processes alone. Then the larger simplices come before
-their faces. Of the tuples that may be allowed, each is with the density; if none is, one of them. A tuple may be allowed at a face if each larger
-simplex has a tuple that goes on from it. If there is none, the task is drawn again. So what is drawn is pruned."""
+First come three densities: of the largest simplices, of the faces between, and of the processes alone. Then the larger simplices come
+before their faces. Of the tuples that may be allowed, each is with the density; if none is, one of them. A tuple may be allowed at a
+face if each larger simplex has a tuple that goes on from it. If there is none, the task is drawn again. So what is drawn is pruned."""
 import random
 from typing import Iterator, List, Optional
 

@@ -45,7 +45,7 @@ class Part:
         self.path, self.program = path, f"# {program}"
 
     def begun(self) -> Dict[str, Line]:
-        """What this program decided before, by codes. A last line that is not whole is left out. What another program decided is forgotten."""
+        """What this program decided before, by codes: without a last line that is not whole, and without what another program decided."""
         if not self.path.is_file():
             return {}
         first, *lines = self.path.read_text(encoding="utf-8").split("\n")[:-1] or [""]

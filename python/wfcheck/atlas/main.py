@@ -4,12 +4,13 @@
     tools/atlas --task CODE    writes the task that a code tells
     tools/atlas --totals       writes how many tasks of each table have which answer, as gallery/atlas/README.md shows them
 
-A table has a line for each task: its code, the answer in the words of tools/ask, and of an obstruction the nodes, and the modulus and the number
-of multipliers of each balance. Each answer was accepted by `wfcheck verify`. If a search has no end within two seconds, tools/ask is asked, which
-has a SAT solver if one is on the path; the last column has these numbers of rounds, and `wfcheck proof` accepted a solver's proofs.
+A table has a line for each task: its code, the answer in the words of tools/ask, and of an obstruction the nodes, and the modulus and
+the number of multipliers of each balance. Each answer was accepted by `wfcheck verify`. If a search has no end within two seconds,
+tools/ask is asked, which has a SAT solver if one is on the path; the last column has these numbers of rounds, and `wfcheck proof`
+accepted a solver's proofs.
 
-What is decided stands in NAME.tsv.part until the table is whole. If the run is stopped, the next goes on from there, if the program is the same.
-The status is 0 if all is done, and 2 if the words name nothing, a certificate is not accepted or a file can't be written."""
+What is decided stands in NAME.tsv.part until the table is whole. If the run is stopped, the next goes on from there, if the program is
+the same. The status is 0 if all is done, and 2 if the words name nothing, a certificate is not accepted or a file can't be written."""
 import argparse
 import concurrent.futures
 import hashlib
@@ -57,7 +58,8 @@ def arguments(words: List[str], folder: pathlib.Path) -> argparse.Namespace:
     parser.add_argument("--list", action="store_true", help="tells the names of the tables, and what stands in each")
     parser.add_argument("--task", metavar="CODE", help="writes the task that a code tells")
     parser.add_argument("--totals", action="store_true", help="writes the table of answers")
-    parser.add_argument("--workers", type=int, default=WORKERS, metavar="N", help=f"how many tasks are asked about at once, {WORKERS} if it isn't given")
+    many = f"how many tasks are asked about at once, {WORKERS} if it isn't given"
+    parser.add_argument("--workers", type=int, default=WORKERS, metavar="N", help=many)
     parser.add_argument("--folder", type=pathlib.Path, default=folder, help="where the tables are, gallery/atlas if it isn't given")
     asked = parser.parse_args(words)
     if strangers := [it for it in asked.names if it not in NAMES]:

@@ -1,9 +1,9 @@
-"""Codes: a task in a word. A code begins with the tag of a shape, which says how many processes there are, what they begin with, and how many
-values each may decide. Behind the tag stands a mask for each input simplex: which tuples are allowed there.
+"""Codes: a task in a word. A code begins with the tag of a shape, which says how many processes there are, what they begin with, and how
+many values each may decide. Behind the tag stands a mask for each input simplex: which tuples are allowed there.
 
-`b-7e-f.6.9-3.1.2` has the shape `b`, three processes that begin with 0 and decide 0 or 1. 7e is the mask of the triangle; f, 6 and 9 are those
-of the edges 01, 02 and 12; 3, 1 and 2 those of the processes alone. Bit k of a mask, from the lowest, is the tuple that k is to the base of
-the values, the lowest process being the last digit. So 6 allows (1, 0) and (0, 1): it has the bits 1 and 2."""
+`b-7e-f.6.9-3.1.2` has the shape `b`, three processes that begin with 0 and decide 0 or 1. 7e is the mask of the triangle; f, 6 and 9
+are those of the edges 01, 02 and 12; 3, 1 and 2 those of the processes alone. Bit k of a mask, from the lowest, is the tuple that k is
+to the base of the values, the lowest process being the last digit. So 6 allows (1, 0) and (0, 1): it has the bits 1 and 2."""
 import functools
 import itertools
 from typing import Dict, List, NamedTuple, Sequence, Tuple

@@ -1,11 +1,11 @@
 """Generalized symmetry breaking: tasks in which what counts is how many processes decide each value.
 
-All of n processes begin alike, and know themselves by their ranks alone. Value v, from 0 on, has a least and a largest number. If all n take
-part, the number of those that decide v lies between the two. If fewer take part, they may decide what the others can go on from.
+All of n processes begin alike, and know themselves by their ranks alone. Value v, from 0 on, has a least and a largest number. If all n
+take part, the number of those that decide v lies between the two. If fewer take part, they may decide what the others can go on from.
 
-`gsb4-13.13` is such a task of four processes, in which each of two values is decided by one to three of them. Bounds are listed if they are
-tight, so that each is met by some choice of all n; and if each value can be decided. Then other bounds say another task, but for the order of
-the values, and they ascend in a code."""
+`gsb4-13.13` is such a task of four processes, in which each of two values is decided by one to three of them. Bounds are listed if they
+are tight, so that each is met by some choice of all n; and if each value can be decided. Then other bounds say another task, but for
+the order of the values, and they ascend in a code."""
 import itertools
 import re
 from typing import Dict, Iterator, List, Tuple

@@ -9,7 +9,7 @@ SEED = 20261129
 
 
 class Table(NamedTuple):
-    """A table: its name, what stands in it, its codes in their order, up to how many rounds is asked, and how many seconds a run may take."""
+    """A table: its name, what stands in it, its codes in their order, how many rounds are asked about, and how many seconds a run has."""
     name: str
     about: str
     codes: Callable[[], List[str]]
