@@ -88,7 +88,7 @@ def room(shape: Shape, begun: List[Masks]) -> List[int]:
     """What each simplex of the next size may allow at most, since all larger ones have to go on from it."""
     levels = shape.levels()
     if not begun:
-        return [(1 << shape.values ** shape.processes) - 1]
+        return [(1 << len(shape.tuples(shape.processes))) - 1]
     above = [*zip(levels[len(begun) - 1], begun[-1])]
     return [common([shadow(shape, whole, face, mask) for whole, mask in above if set(face) < set(whole)]) for face in levels[len(begun)]]
 

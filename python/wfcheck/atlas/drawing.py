@@ -39,7 +39,7 @@ def drawn(shape: Shape, choose: random.Random) -> Optional[Rules]:
         density = densities[0 if place == 0 else 2 if place == shape.processes - 1 else 1]
         larger = shape.levels()[place - 1] if place else []
         for face in level:
-            most = (1 << shape.values ** len(face)) - 1
+            most = (1 << len(shape.tuples(len(face)))) - 1
             for whole in larger:
                 if set(face) < set(whole):
                     most &= shadow(shape, whole, face, rules[whole])

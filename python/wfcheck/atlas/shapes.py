@@ -80,7 +80,7 @@ def tuples_of(values: int, size: int) -> List[Values]:
 
 def digits(shape: Shape, size: int) -> int:
     """How many hexadecimal digits a mask of tuples of this size has."""
-    return -(-shape.values ** size // 4)
+    return -(-len(shape.tuples(size)) // 4)
 
 
 def mask_of(shape: Shape, code: str, simplex: Simplex, text: str) -> int:
@@ -89,7 +89,7 @@ def mask_of(shape: Shape, code: str, simplex: Simplex, text: str) -> int:
     if len(text) != width or set(text) - set("0123456789abcdef"):
         raise Mistake(f"{code!r} is no code: {text!r} is no mask of {width} hexadecimal digits")
     mask = int(text, 16)
-    if not 0 < mask < 1 << shape.values ** len(simplex):
+    if not 0 < mask < 1 << len(shape.tuples(len(simplex))):
         raise Mistake(f"{code!r} is no code: the mask {text} allows nothing, or what is no tuple")
     return mask
 
