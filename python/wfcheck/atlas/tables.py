@@ -34,7 +34,7 @@ def at_random(name: str, about: str, shape: Shape, many: int, seconds: float) ->
 
 TABLES = [
     Table("three-binary", "three processes, one input facet, two values: all pruned tasks up to symmetry", lambda: listed(BINARY), 3, 30),
-    Table("symmetry-breaking", "generalized symmetry breaking of three and four processes, up to five and seven values", broken, 3, 30),
+    Table("symmetry-breaking", "generalized symmetry breaking of three and four processes, up to five and seven values", broken, 3, 120),
     Table("two-edge", "two processes, one input edge, three values: all pruned tasks up to symmetry", lambda: listed(EDGE), 3, 30),
     at_random("two-cycle", "two processes, a cycle of four input edges, three values", CYCLE, 2_000, 30),
     at_random("three-ternary", "three processes, one input facet, three values", TERNARY, 5_000, 30),
