@@ -204,6 +204,16 @@ class Tables(Case):
                             ({0: None, 1: None}, "not decided"), ({0: None, 1: True}, "map at 1")]:
             self.assertEqual(deciding.summed(found), told)
 
+    def test_what_the_search_leaves_open(self):
+        """If the search has no answer, `ask` is asked, and the line has these rounds."""
+        task = tables.task_of("p-0bb-1.4")
+        answers = [wfcheck.NoneUpTo(task, 0, None), wfcheck.NoAnswer(), wfcheck.MapAt(task, 2, None)]
+        with unittest.mock.patch.object(deciding.Asked, "searched", return_value=None), \
+                unittest.mock.patch.object(deciding.Asked, "obstruction", return_value=None), \
+                unittest.mock.patch.object(deciding, "ask", side_effect=answers):
+            line = deciding.decided(task, 3, 10)
+        self.assertEqual(line, deciding.Line("p-0bb-1.4", "none up to 0, map at 2", asked="0 1 2"))
+
     @needs_program
     def test_known_answers(self):
         """All may decide anything; the first two have to agree; a walk of three edges; weak symmetry breaking."""

@@ -78,7 +78,10 @@ class Asked:
         if found is not None:
             return found
         self.asked.append(rounds)
-        answer = ask(self.task, rounds, seconds=self.seconds, use_obstructions=False)
+        try:
+            answer = ask(self.task, rounds, seconds=self.seconds, use_obstructions=False)
+        except NoAnswer:
+            return None
         return True if isinstance(answer, (From, MapAt)) else False if isinstance(answer, NoneUpTo) else None
 
     def searched(self, rounds: int) -> Optional[bool]:
