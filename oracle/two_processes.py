@@ -98,21 +98,26 @@ def narrowed(kept, joined):
     return all(kept.values())
 
 
+def answer(text):
+    """What is answered to the bytes of a task file. Raises task_file.Refused."""
+    task = task_file.read(text)[0]
+    if task["processes"] != 2 or task.get("first_block", 1) > 1:
+        raise task_file.Refused("", "it has another number of processes than two, or a first block")
+    rounds = least_rounds(task)
+    return "never" if rounds is NEVER else f"from {rounds}"
+
+
 def main():
     words = argparse.ArgumentParser(description=__doc__, formatter_class=argparse.RawDescriptionHelpFormatter, usage="two_processes.py TASK")
     words.add_argument("task")
     asked = words.parse_args()
     try:
         with open(asked.task, "rb") as file:
-            task = task_file.read(file.read(task_file.LONGEST + 1))[0]
+            print(answer(file.read(task_file.LONGEST + 1)))
     except OSError as error:
         words.error(str(error))
     except task_file.Refused as refused:
         words.error(f"the task is refused, {refused.line}: {refused.words}")
-    if task["processes"] != 2 or task.get("first_block", 1) > 1:
-        words.error("the task has another number of processes, or a first block")
-    rounds = least_rounds(task)
-    print("never" if rounds is NEVER else f"from {rounds}")
     return 0
 
 
