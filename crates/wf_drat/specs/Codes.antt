@@ -9,8 +9,8 @@ use Rattle.wf_clauses.specs.Formula.{Assignment, Literal, pos, neg}
 abbrev pub most_variables : ℕ
 most_variables = 2147483646
 
--- the last variable of a proof, of clauses on the variables from 1 to this number: a proof may bring
--- in as many again, and some more
+-- the last variable of a proof, of clauses on the variables from 1 to this number: a proof may
+-- bring in as many again, and some more
 abbrev pub last_variable : ℕ → ℕ
 last_variable variables = 2 * variables + 65536
 

@@ -1,5 +1,5 @@
 -- What a checker makes of a proof's bytes.
-use Rattle.std.specs.Prelude.{◌≡◌, ◌⊎◌, ℕ, ◌+◌, List, [], ◌∷◌, if◌then◌else◌}
+use Rattle.std.specs.Prelude.{◌≡◌, ◌⊎◌, ℕ, List, [], ◌∷◌, if◌then◌else◌}
 use Rattle.wf_clauses.specs.Formula.{Clause}
 use Rattle.wf_drat.specs.Codes.{last_variable}
 use Rattle.wf_lrat_text.specs.Text.{End, State, Step, Text, addition, at_start, broken_in, deletion, open_in, text_of}

@@ -24,8 +24,8 @@ pub enum ProofFault {
         /// The number of the line.
         line: u64,
     },
-    /// This line has a variable whose number is larger than the [`last_variable`] of a proof of these
-    /// clauses.
+    /// This line has a variable whose number is larger than the [`last_variable`] of a proof of
+    /// these clauses.
     NoSuchVariable {
         /// The number of the line.
         line: u64,
