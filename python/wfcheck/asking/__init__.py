@@ -1,7 +1,8 @@
 """ask TASK ROUNDS [--solver WORDS] [--seconds N] [--keep FOLDER] [--jobs N]: a question that may be too hard for the search alone.
 
-First `wfcheck obstruction` looks for an obstruction of the task, once. If it finds one, and `verify` accepts it, the task has no map after
-any number of rounds, and nothing else is asked. If it finds none, that says nothing about the task.
+First `wfcheck obstruction` looks for an obstruction of the task, and then, with `--covers 1`, for one with a cover. If it finds one, and
+`verify` accepts it, the task has no map after any number of rounds, and nothing else is asked. If it finds none, that says nothing about the
+task.
 
 Reports that are given by --hint come next. One that `verify` accepts of this task after these rounds is the answer, whoever wrote it.
 
