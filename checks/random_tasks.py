@@ -1,8 +1,8 @@
 """Random tasks of all kinds, for checks/joins and checks/solves; those of symmetric_task for checks/fuzz.
 
-A task of the first kind has one to four processes, names or ranks, a first block of one to three, one to three input facets of any sizes, and
-one to five output values. What is allowed at a simplex is drawn at random, or from what is left of the tuples of larger simplices. A network
-has edges between a few inputs, and mostly no map, which shows only behind some branches."""
+A task of random_task has one to four processes, names or ranks, a first block of one to three, one to three input facets of any sizes,
+and one to five output values. What is allowed at a simplex is drawn at random, or from what is left of the tuples of larger simplices.
+A network has edges between a few inputs, and mostly no map, which shows only behind some branches."""
 import itertools
 import json
 
@@ -15,7 +15,8 @@ def random_task(choose):
     processes = choose.choice([1, 2, 2, 2, 3, 3, 3, 3, 4])
     version, symmetric = choose.choice([1, 2]), choose.random() < 0.3
     most = {1: 5, 2: 5, 3: 4, 4: 3}[processes]
-    values = sorted(choose.sample(range(64 if version == 1 else 256), choose.randint(1, most))) if choose.random() < 0.2 else [*range(choose.randint(2, most))]
+    every = range(64 if version == 1 else 256)
+    values = sorted(choose.sample(every, choose.randint(1, most))) if choose.random() < 0.2 else [*range(choose.randint(2, most))]
     inputs = sorted({facet(choose, processes) for _ in range(choose.choice([1, 1, 2, 3]))})
     draw = choose.choice([rules_by_density, rules_from_above])
     rules = [*draw(choose, list(task_file.complex_of(inputs)), values, symmetric)]
@@ -23,8 +24,8 @@ def random_task(choose):
 
 
 def random_network(choose):
-    """A task of three or four processes, as its JSON value. Some inputs of process 0 may be in no edge, so that they make many branches. Else
-    each value of a vertex has another one at the other end of an edge, and in some tasks a few more: so no value is lost before a branch."""
+    """A task of three or four processes, as its JSON value. Some inputs of process 0 may be in no edge, so that they make many branches.
+    Else each value of a vertex has one at the other end of an edge, and in some tasks a few more: so no value is lost before a branch."""
     processes, own, values = choose.choice([3, 3, 4]), choose.randint(1, 4), range(choose.choice([2, 3, 3, 4]))
     free = choose.choice([(), (64,), (8, 8), (9, 8), (4, 4, 4), (3, 3, 3, 3), (2, 2, 2, 2, 2, 2)])
     pairs = itertools.combinations([(p, len(free) + it) for p in range(processes) for it in range(own)], 2)
@@ -55,8 +56,8 @@ def symmetric_task(choose):
 def task_of(choose, processes, version, symmetric, rules):
     """The task with these rules at its input simplices."""
     outputs = sorted({tuple(zip((p for p, _ in simplex), it)) for simplex, rule in rules for it in rule})
-    task = {"version": version, "processes": processes, "symmetric": symmetric, "inputs": [simplex for simplex, _ in rules], "outputs": outputs,
-            "delta": [{"in": simplex, "out": rule} for simplex, rule in rules]}
+    task = {"version": version, "processes": processes, "symmetric": symmetric, "inputs": [simplex for simplex, _ in rules],
+            "outputs": outputs, "delta": [{"in": simplex, "out": rule} for simplex, rule in rules]}
     return json.loads(json.dumps(task | ({"first_block": choose.choice([1, 1, 2, 3])} if version == 2 else {})))
 
 
@@ -73,7 +74,8 @@ def rules_by_density(choose, simplices, values, symmetric):
         every = list(itertools.product(values, repeat=len(simplex)))
         key = tuple(value for _, value in simplex) if symmetric else simplex
         if key not in known or choose.random() < 0.1:
-            known[key] = [it for it in every if choose.random() < density[len(simplex) - 1]] or [choose.choice(every)] * (choose.random() < 0.9)
+            some = [it for it in every if choose.random() < density[len(simplex) - 1]]
+            known[key] = some or [choose.choice(every)] * (choose.random() < 0.9)
         yield simplex, known[key]
 
 

@@ -2,8 +2,8 @@
 """joined.py TASK ROUNDS < PARTS: what is made of the parts of a question's branches, straight from docs/FORMAT.md.
 
 What `wfcheck join` answers, byte for byte, and slowly: it shares nothing with the program, and is here to be read. The branches and the
-lines that cut a question into them are those of independent.py. A part is judged line by line as plain.py judges a report, about the box of its
-branch, and so is the whole report that comes of them. The status is 0 where there is one, else 2."""
+lines that cut a question into them are those of independent.py. A part is judged line by line as plain.py judges a report, about the
+box of its branch, and so is the whole report that comes of them. The status is 0 if there is one, else 2."""
 import argparse
 import pathlib
 import sys
@@ -65,18 +65,23 @@ def body_of(made, front, box, text):
     return answer, values, [" ".join([letter, *map(str, numbers)]) for _, letter, numbers in lines]
 
 
+def part_of(made, front, boxes, branch, text):
+    """What a part about a branch says: its answer, the values of its map, and its lines."""
+    head = independent.part_head(branch, len(boxes)).encode()
+    if not text.startswith(head):
+        raise plain.Refused("45 OtherPart")
+    return body_of(made, front, boxes[branch], text[len(head):])
+
+
 def gathered(made, front, text):
     """What the parts of a text say up to the first with a map: the answer, its values, and the lines branch by branch."""
     boxes, lists = independent.split(made), []
-    for branch, box in enumerate(boxes):
+    for branch in range(len(boxes)):
         part, text = split_text(text)
-        head = independent.part_head(branch, len(boxes)).encode()
-        if not part.startswith(head):
-            raise plain.Refused(f"47 NoPart {branch}")
         try:
-            answer, values, lines = body_of(made, front, box, part[len(head):])
+            answer, values, lines = part_of(made, front, boxes, branch, part)
         except plain.Refused as refused:
-            raise plain.Refused(f"48 InPart {branch}: {refused}")
+            raise plain.Refused(f"47 NoPart {branch}" if str(refused) == "45 OtherPart" else f"48 InPart {branch}: {refused}")
         lists.append(lines)
         if answer != "none":
             return answer, values, lists
@@ -94,6 +99,14 @@ def filled(lines, lists):
             return found
         found += inside
     return found
+
+
+def accepted(task, rounds, branch, text):
+    """What `wfcheck verify --rounds --branch` answers to a text."""
+    made = second_opinion.Complex(task, rounds)
+    boxes = independent.split(made)
+    answer, _, _ = part_of(made, [task["processes"], rounds, made.points, len(made.executions)], boxes, branch, text)
+    return f"accepted {answer} in branch {branch} of {len(boxes)} {plain.at_rounds(rounds)}\n"
 
 
 def report(task, rounds, text):
