@@ -114,10 +114,10 @@ def after(made, box, at, letter, numbers):
     return [[{value} if v == point else set(c) for v, c in enumerate(box)] for value in sorted(box[point], reverse=True)]
 
 
-def check_lines(made, lines, least=None):
-    """Judges the lines of a refutation of the box with all values; with a map's values those up to it, by which it is the least
-    one. The boxes that are left stand with the first one last. Those behind the map's are not looked at."""
-    boxes, is_found = [[set(made.values) for _ in range(made.points)]], False
+def check_lines(made, lines, least=None, first=None):
+    """Judges the lines of a refutation of the first box, which has all values if it isn't given; with a map's values those up to it, by
+    which it is the least one. The boxes that are left stand with the first one last. Those behind the map's are not looked at."""
+    boxes, is_found = [[set(c) for c in first or [made.values] * made.points]], False
     for at, letter, numbers in lines:
         if is_found or not boxes:
             raise Refused(f"29 Trailing {at}")

@@ -1,0 +1,37 @@
+"""wfverify beside wfcheck: the words by which it does the same, and whether it does. A part of checks/verifier and checks/fuzz.
+
+If there is no wfverify beside the program that a script runs, nothing is compared."""
+import subprocess
+
+import common
+
+COMMANDS = {"verify": [], "proof": ["--proof"]}
+
+
+class Otherwise(Exception):
+    """What wfverify does otherwise than wfcheck, in words."""
+
+
+class Shown:
+    """How many runs were shown to wfverify too."""
+    many = 0
+
+
+def words_of(words):
+    """The words by which wfverify is to do what these ask of wfcheck; None if that is not its to do."""
+    command, *others = words or [""]
+    if command not in COMMANDS or "--branch" in others:
+        return None
+    return others if "--lrat" in others else [*COMMANDS[command], *others]
+
+
+def compare(words, given, ran, **how):
+    """Has wfverify do what a run of wfcheck did, if that is its to do, and compares all that both write, tell and answer."""
+    own, program = words_of(words), common.program().with_name("wfverify")
+    if own is None or not program.is_file():
+        return
+    Shown.many += 1
+    other = subprocess.run([program, *own], input=given, capture_output=True, **how)
+    if (other.returncode, other.stdout, other.stderr) != (ran.returncode, ran.stdout, ran.stderr):
+        raise Otherwise(f"wfverify: status {other.returncode}, {other.stdout[:80]}, {other.stderr[:80]}; "
+                        f"wfcheck: status {ran.returncode}, {ran.stdout[:80]}, {ran.stderr[:80]}")
