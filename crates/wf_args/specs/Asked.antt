@@ -3,7 +3,7 @@
 -- How words are read is said by definitions of the crate that reads them: `fault_of` has the kinds
 -- of error that the words may get, which is none where they are taken; `subcommand_of` has the
 -- subcommand that they name, with a row for each of its options.
-use Rattle.std.specs.Prelude.{ℕ, Bool, true, false, List, [], ◌∷◌, Option, Some, None, Result, Ok, Err, codes, find, option_and_then, nat_le, nat_lt, ◌&&◌, if◌then◌else◌}
+use Rattle.std.specs.Prelude.{ℕ, Bool, true, false, List, [], ◌∷◌, Option, Some, None, Result, Ok, Err, codes, find, option_and_then, unwrap_or, nat_le, nat_lt, ◌&&◌, if◌then◌else◌}
 use Rattle.std.specs.List.{list_any}
 use Rattle.std.specs.Str.{bytes_eq}
 use Rattle.clap.specs.Words.{Row, Text, fault_of, first_of, subcommand_of}
@@ -128,7 +128,8 @@ abbrev pub executions_asked : List Row → Asked Job
 executions_asked rows = needed piece.Rounds (rounds_of rows) (λ rounds. this_job (job.Executions rounds))
 
 abbrev pub obstruction_asked : List Row → Asked Job
-obstruction_asked rows = this_job (job.Obstruction (number_of (codes "modulus") rows) (has_flag (codes "progress") rows))
+obstruction_asked rows =
+    this_job (job.Obstruction (number_of (codes "modulus") rows) (unwrap_or (number_of (codes "covers") rows) 0) (has_flag (codes "progress") rows))
 
 -- the options of a preset
 abbrev pub options_of : List Row → ℕ → Options

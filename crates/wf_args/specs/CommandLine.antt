@@ -21,6 +21,14 @@ largest_modulus = 2147483647
 abbrev pub modulus_option : Rule
 modulus_option = record (number_option (codes "modulus")) { parser = Some (parser.Signed (pos 2) (pos largest_modulus)) }
 
+-- the most covers above one another that may be asked for
+abbrev pub most_cover_levels : ℕ
+most_cover_levels = 8
+
+-- `--covers N`
+abbrev pub covers_option : Rule
+covers_option = record (number_option (codes "covers")) { parser = Some (parser.Signed (pos 0) (pos most_cover_levels)) }
+
 -- a word without a name
 abbrev pub kind_word : Rule
 kind_word = record (new_rule (codes "kind")) { action = Some Set; value_names = 1 }
@@ -78,7 +86,7 @@ abbrev pub executions : Shape
 executions = subcommand (codes "executions") (rounds ∷ [])
 
 abbrev pub obstruction : Shape
-obstruction = subcommand (codes "obstruction") (modulus_option ∷ flag_option (codes "progress") ∷ [])
+obstruction = subcommand (codes "obstruction") (modulus_option ∷ covers_option ∷ flag_option (codes "progress") ∷ [])
 
 abbrev pub preset : Shape
 preset = subcommand (codes "preset")

@@ -7,7 +7,7 @@ ghost use Rattle.wf_words.specs.Options.{required};
 ghost use Rattle.wf_args.specs.CommandLine as line;
 ghost use Rattle.wf_args.specs.Building.{Adds, with_first};
 
-use crate::limits::{LARGEST_MODULUS, LEAST_MODULUS};
+use crate::limits::{LARGEST_MODULUS, LEAST_MODULUS, MOST_COVER_LEVELS};
 use clap::{Arg, ArgAction, Command, value_parser};
 use std::alloc::{AllocError, Global};
 use wf_words::options::{flag, number, optional, taking, task, task_file};
@@ -23,7 +23,7 @@ const PROOFS: &str =
 
 /// What the help of `obstruction` says of the answers.
 const OBSTRUCTIONS: &str =
-    "Status 0: an obstruction is written; verify accepts it, and explain tells it in words.\nStatus 1: none was found, and standard error tells which moduli were tried. The task may still have no decision map.\nExample: wfcheck obstruction < gallery/tasks/consensus-2.json > never.txt";
+    "Status 0: an obstruction is written; verify accepts it, and explain tells it in words.\nStatus 1: none was found, and standard error tells what was tried. The task may still have no decision map.\nExample: wfcheck obstruction < gallery/tasks/consensus-2.json > never.txt";
 
 /// What the help of the program says behind its commands.
 const MORE: &str =
@@ -332,6 +332,19 @@ fn modulus<'a>(alloc: Global) -> Arg<'a>
     .value_parser(value_parser!(u32).range(least..=largest))
 }
 
+/// How many covers an obstruction may have above one another, which may be left out.
+fn covers<'a>(alloc: Global) -> Arg<'a>
+    ensures { IsOption line.covers_option result }
+{
+    let most = MOST_COVER_LEVELS as i64;
+    optional(
+        alloc,
+        "covers",
+        "How many covers may stand above one another, 0 to 8; without it none",
+    )
+    .value_parser(value_parser!(u32).range(0..=most))
+}
+
 fn obstruction_command<'a>(alloc: Global) -> Result<Command<'a>, AllocError>
     ensures { IfOk result (IsLeaf line.obstruction) }
 {
@@ -342,12 +355,13 @@ fn obstruction_command<'a>(alloc: Global) -> Result<Command<'a>, AllocError>
         OBSTRUCTIONS,
     )
     .arg(modulus(alloc));
+    let command = taking(command, covers(alloc));
     taking(
         command,
         flag(
             alloc,
             "progress",
-            "Tell on standard error how many unknowns and equations there are",
+            "Tell on standard error how many unknowns and equations there are, and which nodes are tried",
         ),
     )
 }

@@ -339,6 +339,7 @@ fn obstruction_job(found: &ArgMatches<'_>) -> Job
 {
     Job::Obstruction {
         modulus: number(found, "modulus"),
+        covers: number(found, "covers").unwrap_or(0),
         progress: flag(found, "progress"),
     }
 }

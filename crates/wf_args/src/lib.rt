@@ -153,6 +153,8 @@ pub enum Job {
     Obstruction {
         /// The modulus, where one is asked for; else some are tried in turn.
         modulus: Option<u32>,
+        /// How many covers may stand above one another.
+        covers: u32,
         /// Whether it is told how the finder goes on.
         progress: bool,
     },

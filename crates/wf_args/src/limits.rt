@@ -4,3 +4,6 @@
 pub(crate) const LEAST_MODULUS: u32 = 2;
 
 pub(crate) const LARGEST_MODULUS: u32 = 2_147_483_647;
+
+/// The most covers above one another that the finder of obstructions may be asked for.
+pub(crate) const MOST_COVER_LEVELS: u32 = 8;

@@ -43,6 +43,12 @@ pub enum FinderFault {
         /// The most.
         count: u64,
     },
+    /// The tasks of covers that are tried would have more than
+    /// [`MOST_COVER_TUPLES`](crate::MOST_COVER_TUPLES) tuples together.
+    TooManyCovers {
+        /// How many covers were tried.
+        count: u64,
+    },
     /// A number that the finder keeps names nothing, or doesn't divide another one. No task is
     /// known for which this comes. That it never comes is not proved.
     Internal,

@@ -1,5 +1,5 @@
 -- What a run that looks for an obstruction read, wrote and counted.
-use Rattle.std.proofs.Common.{◌≡◌, ℕ, ◌+◌, List, Option, Result, Ok, Err, refl, sym, ap, subst, ◌∙◌, arith}
+use Rattle.std.proofs.Common.{◌≡◌, ℕ, ◌+◌, List, Result, Ok, Err, refl, sym, ap, subst, ◌∙◌, arith}
 use Rattle.wf_model.specs.Limits.{most_bytes}
 use Rattle.wf_model.specs.Task.{Task}
 use Rattle.wf_io.specs.Seen.{Reading, Writing}
@@ -13,41 +13,42 @@ use Rattle.wf_run.proofs.GivenTask.{task_read}
 use Rattle.wf_obstruction_engine.specs.declared.finding.Finding.{Finding}
 use Rattle.wf_obstruction_engine.specs.declared.finding.Finding.TheVariants.{Found, NotFound, GaveUp}
 use Rattle.wf_obstruction_engine.specs.declared.finding.GaveUp as gave_up
+use Rattle.wf_obstruction_engine.specs.declared.search.WantedObstruction.{WantedObstruction}
 use Rattle.wf_obstruction_engine.specs.Finding.{Answers, HandsFinding, IsWritten, SeeksIn}
 use Rattle.wf_obstruction_engine.specs.Laws.{FoundObstructionsAreTrue, SeekingIsCounted}
 
 -- ---- what was found
 
-module _ (asked : Option ℕ) (source source' : Reading) (sink sink' : Writing) where
+module _ (wanted : WantedObstruction) (source source' : Reading) (sink sink' : Writing) where
   abbrev Right : Type 0
-  Right = (t : Task) × GaveTask source source' t × (text : List ℕ) × Wrote sink sink' text × IsWritten asked t text
+  Right = (t : Task) × GaveTask source source' t × (text : List ℕ) × Wrote sink sink' text × IsWritten wanted t text
 
-  of_task : (text : List ℕ) (task : Result Task RunFault) → Reads IsTaskOf source source' task → Next (Answers asked) task (Ok (Found, text)) → Wrote sink sink' text → Right
+  of_task : (text : List ℕ) (task : Result Task RunFault) → Reads IsTaskOf source source' task → Next (Answers wanted) task (Ok (Found, text)) → Wrote sink sink' text → Right
   of_task text (Ok t) (read, reads, judged) next wrote = (t, task_read source source' read t reads judged, text, wrote, next.1)
   of_task text (Err e) reads next wrote = absurd (let bad : ⊥ = cc in bad)
 
-  of_answer : (answer : Result (Finding × List ℕ) RunFault) → SeeksIn asked source source' answer → HandsFinding sink sink' answer (Ok Found) → Right
+  of_answer : (answer : Result (Finding × List ℕ) RunFault) → SeeksIn wanted source source' answer → HandsFinding sink sink' answer (Ok Found) → Right
   of_answer (Ok (Found, text)) (task, reads, next) (same, wrote) = of_task text task reads next wrote
   of_answer (Ok (NotFound tried, text)) seeks (same, wrote) = absurd (let bad : ⊥ = cc in bad)
   of_answer (Ok (GaveUp at, text)) seeks (same, kept) = absurd (let bad : ⊥ = cc in bad)
   of_answer (Err e) seeks (same, kept) = absurd (let bad : ⊥ = cc in bad)
 
 pub found_true : FoundObstructionsAreTrue
-found_true asked source source' sink sink' (answer, seeks, hands) = of_answer asked source source' sink sink' answer seeks hands
+found_true wanted source source' sink sink' (answer, seeks, hands) = of_answer wanted source source' sink sink' answer seeks hands
 
 -- ---- what was counted
 
 -- a refused search counts nowhere
-quiet : (asked : Option ℕ) (t : Task) (e : RunFault) → Answers asked t (Err e) → (failed_reads e ≡ 0) × (failed_writes e ≡ 0)
-quiet asked t run.Read is = absurd is
-quiet asked t run.Write is = absurd is
-quiet asked t e is = (refl, refl)
+quiet : (wanted : WantedObstruction) (t : Task) (e : RunFault) → Answers wanted t (Err e) → (failed_reads e ≡ 0) × (failed_writes e ≡ 0)
+quiet wanted t run.Read is = absurd is
+quiet wanted t run.Write is = absurd is
+quiet wanted t e is = (refl, refl)
 
-answered : (asked : Option ℕ) (t : Result Task RunFault) (answer : Result (Finding × List ℕ) RunFault) → Next (Answers asked) t answer → by_result failed_writes t ≡ 0
+answered : (wanted : WantedObstruction) (t : Result Task RunFault) (answer : Result (Finding × List ℕ) RunFault) → Next (Answers wanted) t answer → by_result failed_writes t ≡ 0
     → (by_result failed_reads t ≡ by_result failed_reads answer) × (by_result failed_writes answer ≡ 0)
-answered asked (Ok t) (Ok a) n w = (refl, refl)
-answered asked (Ok t) (Err e) n w = (sym (quiet asked t e n).0, (quiet asked t e n).1)
-answered asked (Err e) answer n w = (sym (ap (by_result failed_reads) n), ap (by_result failed_writes) n ∙ w)
+answered wanted (Ok t) (Ok a) n w = (refl, refl)
+answered wanted (Ok t) (Err e) n w = (sym (quiet wanted t e n).0, (quiet wanted t e n).1)
+answered wanted (Err e) answer n w = (sym (ap (by_result failed_reads) n), ap (by_result failed_writes) n ∙ w)
 
 -- what holds of the sink, whatever the answer is
 record IsHanded (old new : Writing) (answer : Result (Finding × List ℕ) RunFault) (result : Result Finding RunFault) : Type 0 where
@@ -74,9 +75,9 @@ hands old new (Err e) result h w =
     record { told = handed old new (Err e) result h w; untouched = λ at is. h.1 }
 
 pub seeking_counted : SeekingIsCounted
-seeking_counted asked source source' sink sink' result (answer, (t, (text, (given, gave, is), j), n), h) =
+seeking_counted wanted source source' sink sink' result (answer, (t, (text, (given, gave, is), j), n), h) =
     let a = judged text t j in
-    let b = answered asked t answer n a.1 in
+    let b = answered wanted t answer n a.1 in
     let c = hands sink sink' answer result h b.1 in
     let bound = few most_bytes given source'.left text is in
     record {

@@ -1,5 +1,5 @@
 -- What holds after every run that looks for an obstruction.
-use Rattle.std.specs.Prelude.{◌≡◌, ℕ, List, Option, Result, Ok}
+use Rattle.std.specs.Prelude.{◌≡◌, ℕ, List, Result, Ok}
 use Rattle.wf_model.specs.Task.{Task}
 use Rattle.wf_io.specs.Seen.{Reading, Writing}
 use Rattle.wf_io.specs.Texts.{Wrote}
@@ -9,15 +9,16 @@ use Rattle.wf_run.specs.declared.fault.RunFault.{RunFault}
 use Rattle.wf_obstruction_engine.specs.declared.finding.Finding.{Finding}
 use Rattle.wf_obstruction_engine.specs.declared.finding.Finding.TheVariants.{Found, GaveUp}
 use Rattle.wf_obstruction_engine.specs.declared.finding.GaveUp as gave_up
+use Rattle.wf_obstruction_engine.specs.declared.search.WantedObstruction.{WantedObstruction}
 use Rattle.wf_obstruction_engine.specs.Finding.{FindsObstruction, IsWritten}
 
 -- An obstruction is told to be found only if the source gave the bytes of a task, and the sink took
 -- the text of an obstruction of that task.
 abbrev pub FoundObstructionsAreTrue : Type 0
 FoundObstructionsAreTrue =
-    (asked : Option ℕ) (source source' : Reading) (sink sink' : Writing)
-    → FindsObstruction asked source source' sink sink' (Ok Found)
-    → (t : Task) × GaveTask source source' t × (text : List ℕ) × Wrote sink sink' text × IsWritten asked t text
+    (wanted : WantedObstruction) (source source' : Reading) (sink sink' : Writing)
+    → FindsObstruction wanted source source' sink sink' (Ok Found)
+    → (t : Task) × GaveTask source source' t × (text : List ℕ) × Wrote sink sink' text × IsWritten wanted t text
 
 -- the calls are counted as in each run, and nothing is written if the search gave up
 pub record IsSeekingCounted (source source' : Reading) (sink sink' : Writing) (result : Result Finding RunFault) : Type 0 where
@@ -26,5 +27,5 @@ pub record IsSeekingCounted (source source' : Reading) (sink sink' : Writing) (r
 
 abbrev pub SeekingIsCounted : Type 0
 SeekingIsCounted =
-    (asked : Option ℕ) (source source' : Reading) (sink sink' : Writing) (result : Result Finding RunFault)
-    → FindsObstruction asked source source' sink sink' result → IsSeekingCounted source source' sink sink' result
+    (wanted : WantedObstruction) (source source' : Reading) (sink sink' : Writing) (result : Result Finding RunFault)
+    → FindsObstruction wanted source source' sink sink' result → IsSeekingCounted source source' sink sink' result

@@ -1,7 +1,7 @@
 //! What a search for an obstruction came to.
 
-ghost use Rattle.std.specs.Prelude.{Some};
-ghost use Rattle.wf_obstruction_engine.specs.Finding.{gave_up_text, limit_text, tried_text};
+ghost use Rattle.std.specs.Prelude.{◌≡◌, Some};
+ghost use Rattle.wf_obstruction_engine.specs.Finding.{gave_up_text, limit_text, steps_text, tried_text};
 
 use std::fmt;
 
@@ -10,20 +10,29 @@ use std::fmt;
 pub enum Finding {
     /// An obstruction was found, and its text is the answer.
     Found,
-    /// None was found modulo these numbers.
+    /// None was found by what was tried.
     NotFound(Tried),
     /// The search stopped at a limit. That says nothing about the task.
     GaveUp(GaveUp),
 }
 
-/// The moduli without an obstruction. Its text says so.
+/// What was tried without an obstruction. Its text says so.
 #[derive(Clone, Copy, Debug, PartialEq, Eq)]
 pub enum Tried {
-    /// This one alone.
-    Only(u32),
+    /// This modulus alone.
+    Only {
+        /// The modulus.
+        modulus: u32,
+        /// Whether covers were tried.
+        covers: bool,
+    },
     /// Each of [`MODULI`](crate::MODULI).
-    Each,
-    /// All numbers: the system of the task has a solution over the integers.
+    Each {
+        /// Whether covers were tried.
+        covers: bool,
+    },
+    /// All numbers: without covers, a system where nothing branches any more has a solution over
+    /// the integers.
     AllNumbers,
 }
 
@@ -52,6 +61,8 @@ pub enum SearchLimit {
     Nodes(u64),
     /// A tree would have more nodes above one another than so many.
     Levels(u64),
+    /// So many covers were tried.
+    Covers(u64),
     /// The text of what was found is longer than `verify` reads.
     Length,
     /// What was found is refused, or a number names nothing. No task is known for which this comes,
@@ -64,23 +75,27 @@ impl fmt::Display for Tried {
 
     fn fmt<W: fmt::Write>(&self, f: &mut fmt::Formatter<W>) -> fmt::Result {
         match *self {
-            Tried::Only(modulus) => {
-                write!(
-                    f,
-                    "no obstruction by splits, cases and balances modulo {modulus}"
-                )
+            Tried::Only { modulus, covers } => {
+                write!(f, "no obstruction by {} modulo {modulus}", steps(covers))
             }
-            Tried::Each => write!(
+            Tried::Each { covers } => write!(
                 f,
-                "no obstruction by splits, cases and balances modulo 2, 3, 4, 5, 7, 8, 9, 2147483647"
+                "no obstruction by {} modulo 2, 3, 4, 5, 7, 8, 9, 2147483647",
+                steps(covers)
             ),
-            Tried::AllNumbers => {
-                write!(
-                    f,
-                    "no obstruction by splits, cases and balances of any modulus"
-                )
-            }
+            Tried::AllNumbers => { write!(f, "no obstruction by {} of any modulus", steps(false)) }
         }
+    }
+}
+
+/// The nodes of trees that were tried.
+fn steps(covers: bool) -> &'static str
+    ensures { result.now ≡ steps_text covers }
+{
+    if covers {
+        "covers, splits, cases and balances"
+    } else {
+        "splits, cases and balances"
     }
 }
 
@@ -106,6 +121,7 @@ impl fmt::Display for SearchLimit {
             SearchLimit::Steps(count) => write!(f, "{count} steps"),
             SearchLimit::Nodes(count) => write!(f, "{count} nodes"),
             SearchLimit::Levels(count) => write!(f, "{count} levels"),
+            SearchLimit::Covers(count) => write!(f, "{count} covers"),
             SearchLimit::Length => write!(f, "a longer text than verify reads"),
             SearchLimit::Internal => write!(f, "an internal error"),
         }

@@ -2,9 +2,10 @@
 //!
 //! - [`run_obstruction`]: reads a task, looks for an obstruction, and writes it.
 //! - [`Finding`]: what the search came to.
-//! - [`Tried`]: the moduli without an obstruction.
+//! - [`WantedObstruction`]: what is wanted of the search.
+//! - [`Tried`]: what was tried without an obstruction.
 //! - [`GaveUp`], [`SearchLimit`]: where and why the search stopped before its end.
-//! - [`MODULI`]: the moduli that are tried if none is asked for.
+//! - [`MODULI`]: the moduli that are tried if none is wanted.
 //! - [`found_obstructions_are_true`], [`seeking_is_counted`]: laws.
 //!
 //! What is written was read again and judged, as `verify` does it. So nobody has to trust the
@@ -19,4 +20,4 @@ mod search;
 pub use finding::{Finding, GaveUp, SearchLimit, Tried};
 pub use laws::{found_obstructions_are_true, seeking_is_counted};
 pub use run::run_obstruction;
-pub use search::MODULI;
+pub use search::{MODULI, WantedObstruction};

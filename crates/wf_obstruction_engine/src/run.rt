@@ -8,7 +8,7 @@ ghost use Rattle.wf_tree_text.specs.Seen.{node_seen, nodes_seen};
 ghost use Rattle.wf_obstruction_engine.specs.Finding.{Answers, FindsObstruction, IsAnswer, IsWritten, SeeksIn, is_tried, is_tried_at};
 
 use crate::finding::{Finding, GaveUp, SearchLimit};
-use crate::search::{MODULI, Sought, Stopped, seek};
+use crate::search::{MODULI, Sought, Stopped, WantedObstruction, seek, tried};
 use std::alloc::Global;
 use std::io::{Read, Write};
 use wf_finder::Listener;
@@ -19,8 +19,8 @@ use wf_tree_text::{Obstruction, TreeNode, write_obstruction};
 use wf_verify_engine::{judge_obstruction, obstruction_of};
 
 /// Reads a task to the reader's end, and looks for an obstruction of the task: with balances modulo
-/// a number if one is asked for, or else modulo the first of [`MODULI`] that has one. Writes what
-/// is found, and otherwise nothing.
+/// a number if one is wanted, or else modulo the first of [`MODULI`] that has one, and with covers
+/// if these are wanted. Writes what is found, and otherwise nothing.
 ///
 /// What is written is an obstruction of the task. So no function on the views is a decision map,
 /// after any number of rounds. If none is found or the search gave up, nothing is proved of the
@@ -33,13 +33,13 @@ pub fn run_obstruction<L: Listener, R: Read, W: Write>(
     alloc: Global,
     source: &mut Source<R>,
     sink: &mut Sink<W>,
-    modulus: Option<u32>,
+    wanted: WantedObstruction,
     listener: &L,
 ) -> Result<Finding, RunFault>
     requires { CanCount source.old sink.old }
-    ensures { FindsObstruction modulus source.old source.new sink.old sink.new result }
+    ensures { FindsObstruction wanted source.old source.new sink.old sink.new result }
 {
-    match find_in_source(alloc, source, modulus, listener) {
+    match find_in_source(alloc, source, wanted, listener) {
         Ok((Finding::GaveUp(gave_up), _)) => Ok(Finding::GaveUp(gave_up)),
         answer => hand_out(sink, answer),
     }
@@ -49,42 +49,50 @@ pub fn run_obstruction<L: Listener, R: Read, W: Write>(
 fn find_in_source<L: Listener, R: Read>(
     alloc: Global,
     source: &mut Source<R>,
-    modulus: Option<u32>,
+    wanted: WantedObstruction,
     listener: &L,
 ) -> Answered<Finding>
     requires { CanRead source.old }
-    ensures { SeeksIn modulus source.old source.new (answered result) }
+    ensures { SeeksIn wanted source.old source.new (answered result) }
 {
     let task = read_task(alloc, source)?;
-    find_in_task(alloc, &task, modulus, listener)
+    find_in_task(alloc, &task, wanted, listener)
 }
 
 /// The answer for a task, with its text.
 fn find_in_task<L: Listener>(
     alloc: Global,
     task: &Task,
-    modulus: Option<u32>,
+    wanted: WantedObstruction,
     listener: &L,
 ) -> Answered<Finding>
-    ensures { Answers modulus task.now (answered result) }
+    ensures { Answers wanted task.now (answered result) }
 {
     if task.first_block() != 1 {
         return Err(RunFault::Obstruction(ObstructionFault::FirstBlock));
     }
-    match seek(alloc, task, modulus, listener) {
-        Ok(Sought::Found(found)) => written(alloc, task, modulus, &found),
-        Ok(Sought::NotFound(tried)) => Ok((Finding::NotFound(tried), Vec::new(alloc))),
+    match seek(alloc, task, wanted, listener) {
+        Ok(Sought::Found(found)) => written(alloc, task, wanted, &found),
+        Ok(Sought::NotFound { integers }) => {
+            let tried = tried(wanted, integers);
+            Ok((Finding::NotFound(tried), Vec::new(alloc)))
+        }
         Err(Stopped::GaveUp(gave_up)) => Ok((Finding::GaveUp(gave_up), Vec::new(alloc))),
         Err(Stopped::OutOfMemory) => Err(RunFault::OutOfMemory),
     }
 }
 
 /// The text of what was found, if the text is accepted.
-fn written(alloc: Global, task: &Task, asked: Option<u32>, found: &Obstruction) -> Answered<Finding>
-    ensures { IsAnswer asked task.now (answered result) }
+fn written(
+    alloc: Global,
+    task: &Task,
+    wanted: WantedObstruction,
+    found: &Obstruction,
+) -> Answered<Finding>
+    ensures { IsAnswer wanted task.now (answered result) }
 {
     let text = write_obstruction(alloc, found)?;
-    match accept(alloc, task, asked, &text) {
+    match accept(alloc, task, wanted, &text) {
         Ok(()) => Ok((Finding::Found, text)),
         Err(fault) => match limit_of(fault) {
             None => Err(RunFault::OutOfMemory),
@@ -96,46 +104,53 @@ fn written(alloc: Global, task: &Task, asked: Option<u32>, found: &Obstruction) 
     }
 }
 
-/// Accepts a text that is an obstruction of the task, modulo numbers that are to be tried. The text
-/// is read and judged as `verify` does it.
-fn accept(alloc: Global, task: &Task, asked: Option<u32>, text: &[u8]) -> Result<(), RunFault>
-    ensures { OnOk result (IsWritten asked task.now text.now) }
+/// Accepts a text that is an obstruction of the task, with nodes that are to be tried. The text is
+/// read and judged as `verify` does it.
+fn accept(
+    alloc: Global,
+    task: &Task,
+    wanted: WantedObstruction,
+    text: &[u8],
+) -> Result<(), RunFault>
+    ensures { OnOk result (IsWritten wanted task.now text.now) }
 {
     let obstruction = obstruction_of(alloc, text)?;
-    if !are_tried(asked, &obstruction.nodes) {
+    if !are_tried(wanted, &obstruction.nodes) {
         return Err(RunFault::Obstruction(ObstructionFault::FirstBlock));
     }
     judge_obstruction(alloc, task, &obstruction)
 }
 
-/// Whether each balance is modulo a number that is to be tried.
-fn are_tried(asked: Option<u32>, nodes: &[TreeNode]) -> bool
-    ensures { result ≡ list_all (is_tried_at asked) (nodes_seen nodes.now) }
+/// Whether each node is to be tried.
+fn are_tried(wanted: WantedObstruction, nodes: &[TreeNode]) -> bool
+    ensures { result ≡ list_all (is_tried_at wanted) (nodes_seen nodes.now) }
 {
     'nodes: for node in nodes {
-        if !is_tried_at(asked, node) {
+        if !is_tried_at(wanted, node) {
             return false;
         }
     }
     true
 }
 
-/// Whether a node is no balance, or is one modulo a number that is to be tried.
-fn is_tried_at(asked: Option<u32>, node: &TreeNode) -> bool
-    ensures { result ≡ is_tried_at asked (node_seen node.now) }
+/// Whether a node is to be tried: not a balance modulo another number, and no cover if none is
+/// wanted.
+fn is_tried_at(wanted: WantedObstruction, node: &TreeNode) -> bool
+    ensures { result ≡ is_tried_at wanted (node_seen node.now) }
 {
     match node {
-        TreeNode::Balance(balance) => is_tried(asked, balance.modulus),
+        TreeNode::Balance(balance) => is_tried(wanted.modulus, balance.modulus),
+        TreeNode::Cover(_) => 0 < wanted.covers,
         _ => true,
     }
 }
 
-/// Whether a modulus is the one that is asked for, or one of [`MODULI`] if none is.
-fn is_tried(asked: Option<u32>, modulus: u32) -> bool
-    ensures { result ≡ is_tried asked modulus }
+/// Whether a modulus is the one that is wanted, or one of [`MODULI`] if none is.
+fn is_tried(wanted: Option<u32>, modulus: u32) -> bool
+    ensures { result ≡ is_tried wanted modulus }
 {
-    match asked {
-        Some(asked) => modulus == asked,
+    match wanted {
+        Some(only) => modulus == only,
         None => MODULI.contains(&modulus),
     }
 }

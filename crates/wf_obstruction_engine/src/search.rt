@@ -1,4 +1,6 @@
-//! The search for an obstruction: which moduli are tried.
+//! The search for an obstruction: what is tried.
+
+ghost use Rattle.wf_obstruction_engine.specs.Finding.{IsOf};
 
 use crate::finding::{GaveUp, SearchLimit, Tried};
 use std::alloc::Global;
@@ -9,13 +11,25 @@ use wf_tree_text::{Obstruction, TreeNode};
 /// The moduli that are tried in turn for each balance, if none is asked for.
 pub const MODULI: [u32; 8] = [2, 3, 4, 5, 7, 8, 9, 2_147_483_647];
 
+/// What is wanted of a search for an obstruction.
+#[derive(Clone, Copy, Debug, PartialEq, Eq)]
+pub struct WantedObstruction {
+    /// The modulus of its balances, if one is asked for; else each of [`MODULI`] is tried in turn.
+    pub modulus: Option<u32>,
+    /// How many covers may stand above one another.
+    pub covers: u32,
+}
+
 /// What the finder says of a task.
 #[derive(Drop)]
 pub(crate) enum Sought {
     /// It found this.
     Found(Obstruction),
-    /// It found none modulo these numbers.
-    NotFound(Tried),
+    /// It found none.
+    NotFound {
+        /// Whether the integers show that no modulus has one.
+        integers: bool,
+    },
 }
 
 /// Why there is no answer.
@@ -32,11 +46,11 @@ pub(crate) enum Stopped {
 pub(crate) fn seek<L: Listener>(
     alloc: Global,
     task: &Task,
-    modulus: Option<u32>,
+    wanted: WantedObstruction,
     listener: &L,
 ) -> Result<Sought, Stopped> {
-    let only = [modulus.unwrap_or(MODULI[0])];
-    let moduli = match modulus {
+    let only = [wanted.modulus.unwrap_or(MODULI[0])];
+    let moduli = match wanted.modulus {
         Some(_) => only.as_slice(),
         None => MODULI.as_slice(),
     };
@@ -44,21 +58,26 @@ pub(crate) fn seek<L: Listener>(
         alloc,
         task,
         moduli,
+        covers: wanted.covers,
         listener,
     };
     match find_tree(&search) {
         Ok(FoundTree::Nodes(nodes)) => Ok(Sought::Found(obstruction(task, nodes))),
-        Ok(FoundTree::Nothing { integers }) => Ok(Sought::NotFound(tried(modulus, integers))),
+        Ok(FoundTree::Nothing { integers }) => Ok(Sought::NotFound { integers }),
         Err(stopped) => Err(why_stopped(stopped)),
     }
 }
 
-/// The moduli without an obstruction, if it is known whether the integers show that none has one.
-fn tried(modulus: Option<u32>, integers: bool) -> Tried {
-    match modulus {
-        Some(modulus) => Tried::Only(modulus),
-        None if integers => Tried::AllNumbers,
-        None => Tried::Each,
+/// What was tried, if it is known whether the integers show that no modulus has an obstruction.
+/// They show that of splits, cases and balances alone.
+pub(crate) fn tried(wanted: WantedObstruction, integers: bool) -> Tried
+    ensures { IsOf wanted result }
+{
+    let covers = wanted.covers > 0;
+    match wanted.modulus {
+        Some(modulus) => Tried::Only { modulus, covers },
+        None if integers && !covers => Tried::AllNumbers,
+        None => Tried::Each { covers },
     }
 }
 
@@ -81,6 +100,7 @@ fn why_stopped(stopped: StoppedAt) -> Stopped {
         FinderFault::TooManySteps { count } => SearchLimit::Steps(count),
         FinderFault::TooManyNodes { count } => SearchLimit::Nodes(count),
         FinderFault::TooManyLevels { count } => SearchLimit::Levels(count),
+        FinderFault::TooManyCovers { count } => SearchLimit::Covers(count),
         FinderFault::Internal => SearchLimit::Internal,
     };
     let modulus = stopped.modulus;

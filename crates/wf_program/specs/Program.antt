@@ -61,7 +61,7 @@ use Rattle.wf_program.specs.declared.texts.TextJob.TheVariants as text
 
 -- ---- notes
 
--- the account of a search, the moduli without an obstruction, or where the search for one gave up
+-- the account of a search, what was tried without an obstruction, or where a search gave up
 abbrev pub note_line : Note → List ℕ
 note_line (Account a) = account_line a
 note_line (NoObstruction tried) = tried_text tried ++ 10 ∷ []
@@ -156,8 +156,8 @@ abbrev pub DoesAlone : LoneJob → Reading → Reading → Writing → Writing �
 DoesAlone (lone.Solve wanted workers account progress) source source' sink sink' done = DecidesTask account wanted workers source source' sink sink' done
 DoesAlone (lone.SolveBranch wanted branch progress) source source' sink sink' done =
     (result : Result Outcome RunFault) × SolvesBranch wanted.rounds branch wanted.form source source' sink sink' result × (done ≡ searched result)
-DoesAlone (lone.Obstruction modulus progress) source source' sink sink' done =
-    (result : Result Finding RunFault) × FindsObstruction modulus source source' sink sink' result × (done ≡ sought result)
+DoesAlone (lone.Obstruction wanted progress) source source' sink sink' done =
+    (result : Result Finding RunFault) × FindsObstruction wanted source source' sink sink' result × (done ≡ sought result)
 DoesAlone (lone.Text what) source source' sink sink' done =
     (result : Result (Unit {0}) RunFault) × WritesTextOf what source source' sink sink' result × (done ≡ written result)
 
@@ -180,7 +180,7 @@ text_of job = None
 abbrev pub lone_of : Job → Option LoneJob
 lone_of (Solve rounds workers form account progress) = Some (lone.Solve (record { rounds = rounds; form = form }) workers account progress)
 lone_of (SolveBranch rounds branch form progress) = Some (lone.SolveBranch (record { rounds = rounds; form = form }) branch progress)
-lone_of (Obstruction modulus progress) = Some (lone.Obstruction modulus progress)
+lone_of (Obstruction modulus covers progress) = Some (lone.Obstruction (record { modulus = modulus; covers = covers }) progress)
 lone_of job = option_map lone.Text (text_of job)
 
 -- what a job does with the task in its file, and the file's path; none where it has no file

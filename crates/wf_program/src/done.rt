@@ -23,7 +23,7 @@ pub(crate) struct Done {
 pub(crate) enum Note {
     /// The account of a search.
     Account(Account),
-    /// There is no obstruction modulo these numbers.
+    /// There is no obstruction by what was tried.
     NoObstruction(Tried),
     /// 60: the search for an obstruction gave up.
     GaveUp(GaveUp),

@@ -18,7 +18,7 @@ use wf_branches::{BranchSearch, run_solve_branch};
 use wf_engine::{Form, Search, WantedReport, run_counted_search, run_search};
 use wf_finder::{Listener, Silent};
 use wf_io::{Sink, Source};
-use wf_obstruction_engine::{Finding, run_obstruction};
+use wf_obstruction_engine::{Finding, WantedObstruction, run_obstruction};
 use wf_pool::Gate;
 use wf_run::RunFault;
 use wf_service::Refusal;
@@ -48,9 +48,9 @@ pub(crate) enum LoneJob {
         branch: u32,
         progress: bool,
     },
-    /// Look for an obstruction, for this modulus if one is asked for.
+    /// Look for an obstruction.
     Obstruction {
-        modulus: Option<u32>,
+        wanted: WantedObstruction,
         progress: bool,
     },
     /// Write a text.
@@ -86,8 +86,15 @@ impl LoneJob {
                 branch: *branch,
                 progress: *progress,
             }),
-            Job::Obstruction { modulus, progress } => Some(LoneJob::Obstruction {
-                modulus: *modulus,
+            Job::Obstruction {
+                modulus,
+                covers,
+                progress,
+            } => Some(LoneJob::Obstruction {
+                wanted: WantedObstruction {
+                    modulus: *modulus,
+                    covers: *covers,
+                },
                 progress: *progress,
             }),
             _ => text_alone(TextJob::of(job)),
@@ -129,8 +136,8 @@ impl LoneJob {
                 let search = in_branch(wanted, branch, told_if(progress, gate));
                 after_searching(run_solve_branch(alloc, source, sink, &search))
             }
-            LoneJob::Obstruction { modulus, progress } => {
-                after_seeking(seek(alloc, source, sink, modulus, told_if(progress, gate)))
+            LoneJob::Obstruction { wanted, progress } => {
+                after_seeking(seek(alloc, source, sink, wanted, told_if(progress, gate)))
             }
             LoneJob::Text(what) => after_writing(what.write(alloc, source, sink)),
         }
@@ -200,14 +207,14 @@ fn seek<L: Listener, R: Read, W: Write>(
     alloc: Global,
     source: &mut Source<R>,
     sink: &mut Sink<W>,
-    modulus: Option<u32>,
+    wanted: WantedObstruction,
     listener: Option<&L>,
 ) -> Result<Finding, RunFault>
     requires { CanCount source.old sink.old }
-    ensures { FindsObstruction modulus source.old source.new sink.old sink.new result }
+    ensures { FindsObstruction wanted source.old source.new sink.old sink.new result }
 {
     match listener {
-        Some(listener) => run_obstruction(alloc, source, sink, modulus, listener),
-        None => run_obstruction(alloc, source, sink, modulus, &Silent),
+        Some(listener) => run_obstruction(alloc, source, sink, wanted, listener),
+        None => run_obstruction(alloc, source, sink, wanted, &Silent),
     }
 }

@@ -22,8 +22,8 @@ const MANY_TURNS: u64 = 65_536;
 /// Tells on standard error how a run goes on. Of a search it tells how large the complex is, how
 /// many branches there are, a line for each settled branch, and, if none was settled for long, how
 /// many turns were taken since. Of the finder of obstructions it tells how many equations were
-/// taken in, and of a check of a proof which line is reached. If that can't be written nothing more
-/// can be done.
+/// taken in, and which nodes are tried; of a check of a proof which line is reached. If that can't
+/// be written nothing more can be done.
 #[derive(Drop)]
 struct ProgressLines<'a, R> {
     rt: &'a R,
@@ -81,6 +81,23 @@ impl<R: Eprint + Sync> Listener for ProgressLines<'_, R> {
 
     fn equations(&self, modulus: u32, count: u64) {
         let _told = eprintln!(self.rt; "modulo {modulus}: {count} equations taken in");
+    }
+
+    fn split(&self, simplex: u32) {
+        let _told = eprintln!(self.rt; "split {simplex}");
+    }
+
+    fn part(&self, simplex: u32, number: u32, count: u32) {
+        let number = number.saturating_add(1);
+        let _told = eprintln!(self.rt; "case {simplex}: part {number} of {count}");
+    }
+
+    fn empty(&self, simplex: u32) {
+        let _told = eprintln!(self.rt; "case {simplex}: no part");
+    }
+
+    fn cover(&self, simplex: u32) {
+        let _told = eprintln!(self.rt; "cover {simplex}");
     }
 }
 

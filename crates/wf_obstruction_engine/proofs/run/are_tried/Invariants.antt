@@ -5,4 +5,4 @@ use Rattle.wf_obstruction_engine.specs.Finding.{is_tried_at}
 use Rattle.wf_obstruction_engine.proofs.run.are_tried.Given as goal
 
 abbrev pub invariant-nodes : goal.invariant-nodes
-invariant-nodes l = list_all (λ n. is_tried_at l.asked (node_seen n)) (drop l.node-index l.nodes) ≡ list_all (is_tried_at l.asked) (nodes_seen l.nodes)
+invariant-nodes l = list_all (λ n. is_tried_at l.wanted (node_seen n)) (drop l.node-index l.nodes) ≡ list_all (is_tried_at l.wanted) (nodes_seen l.nodes)

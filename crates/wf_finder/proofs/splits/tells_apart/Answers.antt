@@ -3,7 +3,7 @@ use Rattle.std.specs.Cmp.Lexicographic.{slice_cmp}
 use Rattle.std.specs.Ordering.{nat_cmp}
 use Rattle.wf_model.specs.Lists.{in_order}
 use Rattle.wf_refine.proofs.CaseSteps.{rule_found}
-use Rattle.wf_finder.proofs.trees.tells_apart.Goals as goal
+use Rattle.wf_finder.proofs.splits.tells_apart.Goals as goal
 
 pub named_rows-requires-clause-few : goal.named_rows-requires-clause-few
 named_rows-requires-clause-few g c =

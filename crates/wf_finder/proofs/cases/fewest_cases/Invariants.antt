@@ -1,5 +1,5 @@
 use Rattle.std.proofs.Common.{◌<◌, IfSome, length}
-use Rattle.wf_finder.proofs.trees.fewest_cases.Given as goal
+use Rattle.wf_finder.proofs.cases.fewest_cases.Given as goal
 
 -- a simplex that was found is one of the task at hand
 abbrev pub invariant-simplices : goal.invariant-simplices

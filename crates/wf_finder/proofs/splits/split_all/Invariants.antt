@@ -1,6 +1,6 @@
 use Rattle.std.proofs.Common.{◌≤◌, map, vec_items}
 use Rattle.wf_refine.specs.AtHand.{IsAtHand}
-use Rattle.wf_finder.proofs.trees.split_all.Given as goal
+use Rattle.wf_finder.proofs.splits.split_all.Given as goal
 
 -- the task at hand fits its inputs, and no level comes back
 abbrev pub invariant-splits : goal.invariant-splits
