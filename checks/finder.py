@@ -1,8 +1,9 @@
 """Small tasks, and what `wfcheck obstruction` has to say of each: a part of checks/fuzz.
 
-Each task is asked about modulo 2 and 3, and without a modulus; the kept ones modulo 4, 8 and 9 as well. The program has to find an
-obstruction wherever oracle/finding.py does, and oracle/obstructions.py has to accept what it finds, of this task. It may say that no
-modulus has an obstruction only where oracle/finding.py finds whole numbers that show it."""
+Each task is asked about modulo 2 and 3, and without a modulus; the kept ones modulo 4, 8 and 9 as well. Modulo 2 covers are asked for too,
+if there is nothing without them. The program has to find an obstruction wherever oracle/finding.py does, and oracle/obstructions.py has to
+accept what it finds, of this task. It may say that no modulus has an obstruction only where oracle/finding.py finds whole numbers that show
+it."""
 import itertools
 import json
 import random
@@ -26,6 +27,8 @@ KEPT = {
 NONE_FOUND = re.compile(r"no obstruction by splits, cases and balances (?:(of any modulus)|modulo (\d+(?:, \d+)*))\n")
 # a larger modulus is not asked of oracle/finding.py in a case
 LARGEST = 9
+# the modulus by which covers are asked for too
+WITH_COVERS = 2
 
 
 def random_task(choose):
@@ -61,32 +64,26 @@ def wrong(run, text, moduli, having=None):
     task = task_file.read(text)[0]
     for modulus in moduli:
         found = finding.find(task, [modulus])
-        if found:
-            obstructions.judge(task, finding.text_of(task, found))
         if having is not None and bool(finding.balance(obstructions.hand_of(task), modulus)) != (modulus in having):
             return f"oracle/finding.py finds {'no' if modulus in having else 'a'} balance modulo {modulus}"
-        ran = run(["obstruction", "--modulus", str(modulus)], text)
-        if fault := wrong_modulus(task, modulus, found, ran):
+        if fault := wrong_modulus(run, task, text, modulus, 0, found):
             return f"modulo {modulus}: {fault}"
+        if modulus == WITH_COVERS and not found and (fault := wrong_modulus(run, task, text, modulus, 1, finding.find(task, [modulus], 1))):
+            return f"modulo {modulus} with a cover: {fault}"
     if having is not None and (least := finding.find(task)[-1].numbers[0]) != having[0]:
         return f"oracle/finding.py finds a balance modulo {least}, and not modulo {having[0]}"
     return wrong_whole(task, run(["obstruction"], text))
 
 
-def is_uneven(task):
-    """Whether a symmetric task has other rules at simplices with the same inputs. The program's finder does not look for what these have in
-    common, and may find none where oracle/finding.py does."""
-    rules = {}
-    for entry in task["delta"] if task["symmetric"] else []:
-        rules.setdefault(tuple(value for _, value in entry["in"]), set()).add(tuple(sorted(map(tuple, entry["out"]))))
-    return any(len(it) > 1 for it in rules.values())
-
-
-def wrong_modulus(task, modulus, found, ran):
-    """What is wrong with what the program says of a task and a modulus, or None."""
-    if ran.returncode == 0 or found and not is_uneven(task):
+def wrong_modulus(run, task, text, modulus, covers, found):
+    """What is wrong with what the program says of a task, a modulus and so many covers, or None."""
+    if found:
+        obstructions.judge(task, finding.text_of(task, found))
+    ran = run(["obstruction", "--modulus", str(modulus), *["--covers", str(covers)] * (covers > 0)], text)
+    if ran.returncode == 0 or found:
         return wrong_found(task, modulus, ran)
-    right = (ran.returncode, ran.stdout, ran.stderr) == (1, b"", f"no obstruction by splits, cases and balances modulo {modulus}\n".encode())
+    tried = "covers, splits, cases and balances" if covers else "splits, cases and balances"
+    right = (ran.returncode, ran.stdout, ran.stderr) == (1, b"", f"no obstruction by {tried} modulo {modulus}\n".encode())
     return None if right else f"there is none: {shown(ran)}"
 
 
@@ -109,8 +106,6 @@ def wrong_whole(task, ran):
     said = NONE_FOUND.fullmatch(ran.stderr.decode(errors="replace"))
     if ran.returncode != 1 or ran.stdout or not said:
         return shown(ran)
-    if is_uneven(task):
-        return None
     if said[1]:
         return None if finding.has_none(task) else "some modulus has an obstruction, and it says that none has"
     for modulus in [it for it in map(int, said[2].split(", ")) if it <= LARGEST]:

@@ -47,8 +47,8 @@ ANSWERED = {"none, by a proof": "drat", "map, by a model": "model"}
 # what `wfcheck obstruction` says if it finds none, and of a task with a first block
 NONE_FOUND = re.compile(r"no obstruction by splits, cases and balances (of any modulus|modulo [\d, ]+)\n")
 FIRST_BLOCK = "wfcheck: 50 FirstBlock\n"
-# the word of a node that the finder doesn't make: what needs one is kept, and found by oracle/finding.py alone
-NOT_FOUND = "cover"
+# the word of a node that the finder makes only if it is asked for
+COVER = "cover"
 
 
 def wrong_task(name, its_rows, row):
@@ -64,13 +64,15 @@ def wrong_task(name, its_rows, row):
     if not row:
         return wrong_silence(path, found), found.stderr.strip()
     kept = file.read_text()
-    is_found = NOT_FOUND not in row.tree
+    if COVER in row.tree:
+        if fault := wrong_silence(path, found):
+            return f"without a cover: {fault}", ""
+        found = program(["obstruction", "--covers", str(row.tree.count(COVER))], path.read_text(), 60)
     if numbers_of(kept) != row[1:]:
         return f"the table says {row[1:]}, and the obstruction has {numbers_of(kept)}", ""
-    if is_found and (found.returncode, found.stdout, found.stderr) != (0, kept, ""):
+    if (found.returncode, found.stdout, found.stderr) != (0, kept, ""):
         return f"`wfcheck obstruction`: status {found.returncode}, {found.stderr or 'another obstruction than the one that is kept'}", ""
-    fault = wrong_obstruction(path, kept) or (None if is_found else wrong_silence(path, found))
-    return fault, f"{'found' if is_found else 'kept'} modulo {row.modulus} with {row.multipliers} multipliers, accepted, holds"
+    return wrong_obstruction(path, kept), f"found modulo {row.modulus} with {row.multipliers} multipliers, accepted, holds"
 
 
 def wrong_silence(path, found):
