@@ -125,6 +125,14 @@ class Answers(Case):
         self.assertIsNone(wfcheck.obstruction(known("symmetry-breaking-3"), 2))
         self.refused(50, wfcheck.obstruction, known("consensus-3-first-block-2"))
 
+    def test_an_obstruction_with_a_cover(self):
+        task = known("loop-torus-punctured")
+        self.assertIsNone(wfcheck.obstruction(task))
+        for modulus in (None, 2):
+            found = wfcheck.obstruction(task, modulus, covers=1)
+            self.assertEqual([(it.name, it.numbers) for it in found.nodes], [("cover", (6, 2, 0)), ("balance", (2, 1))])
+        self.assertRaises(ValueError, wfcheck.obstruction, task, covers=-1)
+
     def test_a_report_that_does_not_hold(self):
         found = wfcheck.solve(known("approximate-2-by-9"), 2)
         self.refused(23, wfcheck.verify, known("approximate-2-by-9"), found.report.replace("m 0\n", "m 9\n", 1))

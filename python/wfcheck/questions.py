@@ -116,14 +116,18 @@ def trim(task: Task, refutation: Refutation, *, seconds: Optional[float] = None)
     return Refutation(task, refutation.rounds, report_of(report).steps, report)
 
 
-def obstruction(task: Task, modulus: Optional[int] = None, *, seconds: Optional[float] = None) -> Optional[Obstruction]:
-    """An obstruction of a task, accepted by `wfcheck verify`, or None. That none is found says nothing about the task.
+def obstruction(task: Task, modulus: Optional[int] = None, covers: int = 0, *, seconds: Optional[float] = None) -> Optional[Obstruction]:
+    """An obstruction of a task, accepted by `wfcheck verify`, or None. At most so many covers stand above one another, from 0 to 8. That
+    none is found says nothing about the task.
 
     Raises Refused where the search gives up, and of a task with a first block."""
     judged(task, seconds)
     if modulus is not None:
         arguments.a_number("a modulus", modulus, 2)
-    asked: List[Word] = ["obstruction"] if modulus is None else ["obstruction", "--modulus", modulus]
+    arguments.a_number("the number of covers", covers, 0)
+    asked: List[Word] = ["obstruction"]
+    asked += [] if modulus is None else ["--modulus", modulus]
+    asked += ["--covers", covers] if covers else []
     ran = run(asked, task.text, seconds)
     if ran.status:
         return None

@@ -1,7 +1,8 @@
 """ask TASK ROUNDS [--solver WORDS] [--seconds N] [--keep FOLDER] [--jobs N]: a question that may be too hard for the search alone.
 
-First `wfcheck obstruction` looks for an obstruction of the task, once. If it finds one, and `verify` accepts it, the task has no map after
-any number of rounds, and nothing else is asked. If it finds none, that says nothing about the task.
+First `wfcheck obstruction` looks for an obstruction of the task, and then, with `--covers 1`, for one with a cover. If it finds one, and
+`verify` accepts it, the task has no map after any number of rounds, and nothing else is asked. If it finds none, that says nothing about the
+task.
 
 Then the search is asked about some of the processes alone, the fewest first, in a tenth of the time. If they have no map, the whole has none:
 the lines of their refutation are numbered as those of the whole task, and `verify` has to accept that report.

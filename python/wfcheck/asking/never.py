@@ -1,23 +1,27 @@
-"""The answer for every number of rounds, for tools/ask: `wfcheck obstruction` looks for an obstruction of the task, and `wfcheck verify`
-has to accept it. If none is found, that says nothing about the task."""
+"""The answer for every number of rounds, for tools/ask: `wfcheck obstruction` looks for an obstruction of the task, with a cover if there is
+none without, and `wfcheck verify` has to accept it. If none is found, that says nothing about the task."""
 from __future__ import annotations
 
 import argparse
 import pathlib
 import re
+from typing import List
 
 from . import table
 from .notes import Room, keep
 from .questions import answered
-from .runs import Clock, Late, Refused, Scope, say
+from .runs import Clock, Ended, Late, Refused, Scope, say
 
 ACCEPTED = "accepted none at every number of rounds"
-FIRST_BLOCK, GAVE_UP = "wfcheck: 50 FirstBlock", "wfcheck: 60 GaveUp"
+FIRST_BLOCK, GAVE_UP, UNKNOWN = "wfcheck: 50 FirstBlock", "wfcheck: 60 GaveUp", "error: unexpected argument '--covers'"
+# the options with which an obstruction is looked for in turn
+OPTIONS: List[List[str]] = [[], ["--covers", "1"]]
+NONE_FOUND = 1
 NODE = re.compile(r"^(case|split|cover|balance) (\d+)", re.M)
 
 
 def is_never(words: argparse.Namespace) -> bool:
-    """Whether an obstruction of the task is found and accepted. It is asked for once, with as much time as a number of rounds has."""
+    """Whether an obstruction of the task is found and accepted. It has as much time as a number of rounds."""
     with Room(words.keep) as room, room.attempt() as made:
         file, scope, clock = made / f"{words.task.stem}.obstruction", Scope(words.limits), Clock(words.seconds)
         found = answered("wfcheck obstruction", lambda: is_found(words, file, scope, clock))
@@ -47,19 +51,31 @@ def is_kept(words: argparse.Namespace) -> bool:
 
 
 def is_found(words: argparse.Namespace, file: pathlib.Path, scope: Scope, clock: Clock) -> bool:
-    """Whether an obstruction is found and accepted. A task with a first block has none, and nothing is said of it."""
+    """Whether an obstruction is found and accepted: without covers, or else with one."""
+    ended = None
+    for options in OPTIONS:
+        if ended is None or ended.status == NONE_FOUND:
+            ended = sought(words, file, scope, clock, options)
+    return ended is not None and ended.status == 0 and is_accepted(words, file, scope, clock)
+
+
+def sought(words: argparse.Namespace, file: pathlib.Path, scope: Scope, clock: Clock, options: List[str]) -> Ended:
+    """How the program ended that looked for an obstruction with these options. Nothing is said if it refuses a task with a first block, or if
+    it is one of before 0.5.0, which tries no covers."""
+    asked = ["obstruction", *options]
+    head = [] if options else [f"{words.task.stem} after every number of rounds:"]
+    file.unlink(missing_ok=True)
     try:
-        ended = scope.wfcheck(["obstruction"], clock, words.task, file)
+        ended = scope.wfcheck(asked, clock, words.task, file)
     except Late:
-        say(f"{words.task.stem} after every number of rounds:\n    wfcheck obstruction: no end within the {clock.seconds:g} s that it has")
+        say("\n".join([*head, f"    wfcheck {' '.join(asked)}: no end within the {clock.seconds:g} s that the obstruction has"]))
         raise
-    if ended.said.startswith(FIRST_BLOCK):
-        return False
+    if ended.said.startswith((FIRST_BLOCK, UNKNOWN)):
+        return ended
     if ended.status == 2 and not ended.said.startswith(GAVE_UP):
         raise Refused(ended.said)
-    say(f"{words.task.stem} after every number of rounds:")
-    say(f"    wfcheck obstruction: {ended.why() if ended.status else in_words(file)} ({ended.taken:.2f} s)")
-    return ended.status == 0 and is_accepted(words, file, scope, clock)
+    say("\n".join([*head, f"    wfcheck {' '.join(asked)}: {ended.why() if ended.status else in_words(file)} ({ended.taken:.2f} s)"]))
+    return ended
 
 
 def is_accepted(words: argparse.Namespace, file: pathlib.Path, scope: Scope, clock: Clock) -> bool:
