@@ -65,6 +65,7 @@ _wfcheck() {
         lift:--rounds) return ;;
         executions:--rounds) return ;;
         obstruction:--modulus) return ;;
+        obstruction:--covers) return ;;
         preset:--processes) return ;;
         preset:--k) return ;;
         preset:--values) return ;;
@@ -84,7 +85,7 @@ _wfcheck() {
         explain) words="--task --help" ;;
         lift) words="--task --rounds --help" ;;
         executions) words="--rounds --help" ;;
-        obstruction) words="--modulus --progress --help" ;;
+        obstruction) words="--modulus --covers --progress --help" ;;
         preset) words="set-agreement renaming --processes --k --values --names --help" ;;
         help) words="solve verify views points branches join cnf model proof trim explain lift executions obstruction preset" ;;
         *) return ;;
