@@ -233,9 +233,9 @@ did opens folder folder' source source' sink sink' (Ok (job.Solve rounds workers
 did opens folder folder' source source' sink sink' (Ok (job.SolveBranch rounds branch form progress)) done (same, (result, solves, is)) =
     subst (Alone folder folder' same source source' sink sink') (sym is)
     (after_searching folder folder' same source source' sink sink' result (branch_counted (IsSolvedIn form) rounds branch source source' sink sink' result solves))
-did opens folder folder' source source' sink sink' (Ok (job.Obstruction modulus progress)) done (same, (result, finds, is)) =
+did opens folder folder' source source' sink sink' (Ok (job.Obstruction modulus covers progress)) done (same, (result, finds, is)) =
     subst (Alone folder folder' same source source' sink sink') (sym is)
-    (after_seeking folder folder' same source source' sink sink' result (seeking_counted modulus source source' sink sink' result finds))
+    (after_seeking folder folder' same source source' sink sink' result (seeking_counted (record { modulus = modulus; covers = covers }) source source' sink sink' result finds))
 did opens folder folder' source source' sink sink' (Ok (job.Views rounds)) done (same, (result, writes, is)) = wrote folder folder' same source source' sink sink' (text.Views rounds) done result writes is
 did opens folder folder' source source' sink sink' (Ok (job.Points rounds)) done (same, (result, writes, is)) = wrote folder folder' same source source' sink sink' (text.Points rounds) done result writes is
 did opens folder folder' source source' sink sink' (Ok (job.Branches rounds)) done (same, (result, writes, is)) = wrote folder folder' same source source' sink sink' (text.Branches rounds) done result writes is
