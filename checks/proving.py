@@ -11,6 +11,7 @@ from typing import NamedTuple
 
 import finder
 import lrat
+import refusals
 import rup
 
 # how often a step is made anew that would be refused, how often one is left so, how often groups of hints are damaged, and how often bytes
@@ -249,6 +250,6 @@ def wrong(run, proof):
     said = ran.stderr.split(b" ")[1:3][-1:] or [b"accepted"]
     if ran.returncode == 0 and has_model(clauses):
         return "accepted, and the question has a model", "accepted"
-    answer = (2, b"", f"wfcheck: {refusal}\n".encode()) if refusal else (0, rup.accepted(proof.rounds).encode(), b"")
+    answer = (2, b"", refusals.told(refusal, is_proof=True).encode()) if refusal else (0, rup.accepted(proof.rounds).encode(), b"")
     fault = None if (ran.returncode, ran.stdout, ran.stderr) == answer else f"should be {answer}: {ran.returncode}, {ran.stdout[:80]}, {ran.stderr[:80]}"
     return fault, said[0].decode(errors="replace").strip()

@@ -131,7 +131,7 @@ class Argument:
 
     def tell(self, execution, place, taken, needed, reasons):
         """A step that has taken values: the tuples that they need, and the losses for which none of these can be decided."""
-        simplex, points, _, words = self.made.executions[execution]
+        simplex, points, allowed, words = self.made.executions[execution]
         point, names = points[place], row([f"v{v}" for v in points])
         if not needed:
             claim = f"no tuple at {names} has it"
@@ -142,7 +142,7 @@ class Argument:
         by_point = itertools.groupby(sorted(reasons), lambda pair: pair[0])
         told = [f"v{v} is not {losses_text([(value, self.lost[v, value]) for _, value in pairs])}" for v, pairs in by_point]
         because = ", but " + ", and ".join(told) if told else ""
-        left = self.left(point)
+        left = [value for value in self.left(point) if any(it[place] == value for it in allowed)]
         short = left and (len(left) <= MOST_LEFT or len(items_of(left)) == 1)
         rest = f" So v{point} is {values_text(left)}." if short else ""
         where = f"in execution {execution}, {words_text(simplex, words, self.made.symmetric)}"

@@ -12,6 +12,7 @@ import signal
 import sys
 
 import obstructions
+import refusals
 import second_opinion
 import task_file
 
@@ -20,8 +21,6 @@ NUMBER, PROCESS, VALUE = 2**32 - 1, 3, 255
 FIRST, NAMES, ANSWERS = "wfcheck report 1", ["processes", "rounds", "points", "executions"], ["map", "none", "least"]
 # each letter of a body, and the most that each of its numbers may be
 LETTERS = {"m": [VALUE], "p": [NUMBER, PROCESS, VALUE], "z": [NUMBER], "b": [NUMBER], "f": []}
-# what stands below the line of a refusal
-NOTES = {"2 NotJson": "  note: this is about the file that --task names\n"}
 
 
 class Refused(Exception):
@@ -174,7 +173,7 @@ def judged(task, text, rounds=None):
         line = refused.line
     except Refused as refused:
         line = str(refused)
-    return b"", f"wfcheck: {line}\n{NOTES.get(line, '')}".encode(), 2
+    return b"", refusals.told(line, is_filed=True).encode(), 2
 
 
 def main():

@@ -25,6 +25,10 @@ const PROOFS: &str =
 const OBSTRUCTIONS: &str =
     "Status 0: an obstruction is written; verify accepts it, and explain tells it in words.\nStatus 1: none was found, and standard error tells what was tried. The task may still have no decision map.\nExample: wfcheck obstruction < gallery/tasks/consensus-2.json > never.txt";
 
+/// What the help of `solve` says of `ask`, and an example.
+const SOLVING: &str =
+    "wfcheck-ask decides much that solve alone doesn't end on (tools/ask).\nExample: wfcheck solve --rounds 1 --workers 2 < examples/path-3.json > map.txt";
+
 /// What the help of the program says behind its commands.
 const MORE: &str =
     "docs/FORMAT.md says what each refusal means. tools/lint.py FILE says in words why a task is refused.\nExample: wfcheck solve --rounds 1 --workers 2 < examples/path-3.json > map.txt";
@@ -67,7 +71,7 @@ fn solve_command<'a>(alloc: Global) -> Result<Command<'a>, AllocError>
         alloc,
         "solve",
         "Read a task on standard input, and write its least decision map, or a refutation that there is none",
-        "Example: wfcheck solve --rounds 1 --workers 2 < examples/path-3.json > map.txt",
+        SOLVING,
     )
     .arg(rounds(alloc));
     let command = taking(command, workers(alloc));

@@ -14,11 +14,13 @@ mod forms;
 mod jobs;
 mod limits;
 mod presets;
+mod usage;
 
 use crate::command::whole_command;
 use crate::jobs::job_in;
 use clap::ArgMatches;
 use std::alloc::Global;
+pub use usage::usage_of;
 use wf_lines::Form;
 use wf_preset::Preset;
 use wf_words::WordsFault;

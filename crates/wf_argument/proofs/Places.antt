@@ -14,7 +14,7 @@ use Rattle.wf_simplex.specs.Entries.{place_in}
 use Rattle.wf_simplex.proofs.Places.{place_none, place_some}
 use Rattle.wf_argument_words.specs.Text.{NamedExecutions, execution_at, indented, points_in, rest_text}
 use Rattle.wf_argument.specs.State.{Gone, State, Taking, left_at, needed, take_each}
-use Rattle.wf_argument.specs.Text.{claim_text, grounds_text, taking_text, told_taking}
+use Rattle.wf_argument.specs.Text.{claim_text, grounds_text, left_there, taking_text, told_taking}
 use Rattle.wf_argument.specs.declared.reasons.Reason.{Reason}
 
 -- ---- in an execution
@@ -84,8 +84,8 @@ told_nobody p es s e c values t none = sym (ap (λ at. t ++ told_taking p es s e
 -- a step that has taken values from a point
 pub told_found : (p : Problem) (es : NamedExecutions) (s : State) (e place v : ℕ) (values points : List ℕ) (tuples noted : List Tuple) (why : List Reason) (gone : Gone) → points ≡ points_in (constraint_at p e) → tuples ≡ (constraint_at p e).tuples
     → noted ≡ flat_map (needed tuples place) values → why ≡ (take_each tuples points s.number place v s.gone values).reasons → gone ≡ (take_each tuples points s.number place v s.gone values).gone
-    → indented s.depth (claim_text s.number v values e ++ (execution_at es e ++ (codes ", " ++ (grounds_text points noted why ++ rest_text v (left_at p.values gone v))))) ≡ taking_text p es s e values (place, v)
+    → indented s.depth (claim_text s.number v values e ++ (execution_at es e ++ (codes ", " ++ (grounds_text points noted why ++ rest_text v (left_there tuples place (left_at p.values gone v)))))) ≡ taking_text p es s e values (place, v)
 told_found p es s e place v values points tuples noted why gone points_are tuples_are are rest then =
-    let line : List Tuple → List Reason → Gone → List ℕ → List ℕ = λ noted why gone points. indented s.depth (claim_text s.number v values e ++ (execution_at es e ++ (codes ", " ++ (grounds_text points noted why ++ rest_text v (left_at p.values gone v))))) in
-    (λ i. line (are i) (rest i) (then i) points)
-    ∙ (λ i. let done : Taking = take_each (tuples_are i) (points_are i) s.number place v s.gone values in line (flat_map (needed (tuples_are i) place) values) done.reasons done.gone (points_are i))
+    let line : List Tuple → List Reason → Gone → List ℕ → List Tuple → List ℕ = λ noted why gone points tuples. indented s.depth (claim_text s.number v values e ++ (execution_at es e ++ (codes ", " ++ (grounds_text points noted why ++ rest_text v (left_there tuples place (left_at p.values gone v)))))) in
+    (λ i. line (are i) (rest i) (then i) points tuples)
+    ∙ (λ i. let done : Taking = take_each (tuples_are i) (points_are i) s.number place v s.gone values in line (flat_map (needed (tuples_are i) place) values) done.reasons done.gone (points_are i) (tuples_are i))

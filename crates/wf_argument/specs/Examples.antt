@@ -11,7 +11,7 @@ use Rattle.wf_argument.specs.declared.reasons.Reason.{Reason}
 use Rattle.wf_argument.specs.Parts.{parts_of, takes, closes, splits}
 use Rattle.wf_argument_words.specs.Text.{points_in}
 use Rattle.wf_argument.specs.State.{Gone, first_gone, needed, steps_in, taken, take_in, with_reasons}
-use Rattle.wf_argument.specs.Text.{argument_text, reasons_text, summary_text}
+use Rattle.wf_argument.specs.Text.{argument_text, left_there, reasons_text, summary_text}
 
 abbrev lost : ℕ → Option ℕ → Loss
 lost a step = record { value = a; step = step }
@@ -41,6 +41,10 @@ the_first_that_is_gone = refl
 
 pub each_reason_once : with_reasons two_points_lost (points_in three_points) [] (needed three_points.tuples 2 2) ≡ reason 3 2 None ∷ reason 5 0 (Some 6) ∷ []
 each_reason_once = refl
+
+-- of the values that are left those are told that some tuple has at the place
+pub left_by_the_tuples : left_there three_points.tuples 2 (0 ∷ 1 ∷ 2 ∷ 3 ∷ []) ≡ 1 ∷ 2 ∷ []
+left_by_the_tuples = refl
 
 -- a value that is gone stays gone by the step that took it first
 pub gone_once : taken 9 1 ([] ∷ (lost 0 (Some 2) ∷ []) ∷ []) 0 ≡ [] ∷ (lost 0 (Some 2) ∷ []) ∷ []

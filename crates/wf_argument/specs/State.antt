@@ -77,6 +77,10 @@ with_reason reasons (Some x) = with_element reason_cmp x reasons
 abbrev pub needed : List Tuple → ℕ → ℕ → List Tuple
 needed tuples place a = filter (λ tuple. has_at tuple place a) tuples
 
+-- some of the tuples has this value at this place
+abbrev pub occurs : List Tuple → ℕ → ℕ → Bool
+occurs tuples place a = list_any (λ tuple. has_at tuple place a) tuples
+
 -- why none of these tuples can be decided at these points
 abbrev pub with_reasons : Gone → List ℕ → List Reason → List Tuple → List Reason
 with_reasons gone points reasons tuples = fold (λ found tuple. with_reason found (first_gone gone points tuple)) reasons tuples

@@ -17,7 +17,7 @@ use Rattle.wf_argument_words.specs.Summary.{about_text}
 use Rattle.wf_argument_words.specs.declared.summary.SizeCount.{SizeCount}
 use Rattle.wf_argument.specs.declared.reasons.Reason.{Reason}
 use Rattle.wf_argument.specs.Parts.{Part, takes, closes, splits, parts_of}
-use Rattle.wf_argument.specs.State.{Case, State, start, left_at, needed, take_in, steps_in, cases_at, after_step, after}
+use Rattle.wf_argument.specs.State.{Case, State, start, left_at, needed, occurs, take_in, steps_in, cases_at, after_step, after}
 
 -- ---- a step that takes values
 
@@ -66,11 +66,15 @@ claim_text n v values e = step_text n v ++ (codes " is not " ++ (values_text val
 abbrev pub grounds_text : List ℕ → List Tuple → List Reason → List ℕ
 grounds_text points tuples reasons = needed_text points tuples ++ (reasons_text reasons ++ codes ".")
 
+-- the values that are left to a point, of those that tuples have at its place
+abbrev pub left_there : List Tuple → ℕ → List ℕ → List ℕ
+left_there tuples place left = filter (occurs tuples place) left
+
 abbrev pub taking_text : Problem → NamedExecutions → State → ℕ → List ℕ → ℕ × ℕ → List ℕ
 taking_text p es s e values at =
     let k = constraint_at p e in let done = take_in k s.number at s.gone values in
     indented s.depth (claim_text s.number at.1 values e ++ (execution_at es e ++ (codes ", "
-    ++ (grounds_text (points_in k) (flat_map (needed k.tuples at.0) values) done.reasons ++ rest_text at.1 (left_at p.values done.gone at.1)))))
+    ++ (grounds_text (points_in k) (flat_map (needed k.tuples at.0) values) done.reasons ++ rest_text at.1 (left_there k.tuples at.0 (left_at p.values done.gone at.1))))))
 
 -- ---- the parts
 

@@ -1,13 +1,15 @@
 //! The reasons of a step.
 
-ghost use Rattle.std.specs.Prelude.{◌≡◌, map, vec_items, OnOk};
+ghost use Rattle.std.specs.Prelude.{◌≡◌, ◌||◌, ℕ, map, vec_items, OnOk};
 ghost use Rattle.wf_model.specs.Box.{has_at};
-ghost use Rattle.wf_model.specs.Lists.{with_element};
-ghost use Rattle.wf_argument.specs.State.{first_gone, reason_cmp};
+ghost use Rattle.wf_model.specs.Lists.{has, with_element};
+ghost use Rattle.wf_set.specs.Sets.{values_in};
+ghost use Rattle.wf_argument.specs.State.{first_gone, occurs, reason_cmp};
 
 use crate::losses::{Loss, loss_of};
 use std::alloc::AllocError;
 use std::cmp::Ordering;
+use wf_set::{Mask, nothing, with};
 use wf_task::Row;
 
 /// A point that has lost a value.
@@ -28,6 +30,30 @@ pub(crate) fn has_at(tuple: &Row, place: u8, value: u8) -> bool
         return false;
     }
     tuple.value(place) == value
+}
+
+/// The values that the tuples have at a place.
+pub(crate) fn values_at(tuples: &[Row], place: u8) -> Mask
+    ensures { (v : ℕ) → has (values_in result) v ≡ occurs tuples.now place v }
+{
+    let mut set = nothing();
+    for tuple in tuples {
+        let more = with_value(set, tuple, place);
+        set = more;
+    }
+    set
+}
+
+/// The set with the value that the tuple has at the place, if there is one.
+fn with_value(set: Mask, tuple: &Row, place: u8) -> Mask
+    ensures { (v : ℕ) → has (values_in result) v
+        ≡ (has (values_in set) v || has_at tuple.now place v) }
+{
+    if place < tuple.size() {
+        with(set, tuple.value(place))
+    } else {
+        set
+    }
 }
 
 /// Why a tuple can't be decided at these points: the first of its values that is gone.

@@ -4,29 +4,30 @@ ghost use Rattle.std.specs.Prelude.{◌≡◌, ◌<◌, ◌≤◌, ◌++◌, ◌
 ghost use Rattle.wf_model.specs.Task.{inputs};
 ghost use Rattle.wf_model.specs.Problem.{constraint_at};
 ghost use Rattle.wf_model.specs.Check.{place_of};
+ghost use Rattle.wf_set.specs.Sets.{values_in};
 ghost use Rattle.wf_argument.specs.State.{after_taking, left_at};
 ghost use Rattle.wf_argument_words.specs.Subject.{IsMatched, executions_in, problem_in};
 ghost use Rattle.wf_argument.specs.Subject.{IsSeat, state_after, taking_left};
 ghost use Rattle.wf_argument_words.specs.Text.{execution_at, indented, rest_text};
-ghost use Rattle.wf_argument.specs.Text.{claim_text, grounds_text, told_taking};
+ghost use Rattle.wf_argument.specs.Text.{claim_text, grounds_text, left_there, told_taking};
 ghost use Rattle.wf_argument.specs.Trail.{state_of, values_of};
 
 use crate::grounds::Grounds;
+use crate::reasons::values_at;
 use crate::seat::Participant;
 use crate::state::State;
 use crate::words::put_reasons;
 use std::alloc::AllocError;
 use std::fmt::Write;
 use wf_argument_words::{Subject, put_margin, put_needed, put_rest, put_values};
+use wf_set::{Mask, meet};
 
 /// A step that takes values from a point of an execution.
 #[derive(Clone, Copy, Debug)]
 struct TakingStep<'a> {
-    execution: u32,
+    seat: Participant<'a>,
     point: u32,
     values: &'a [u8],
-    // those of the execution
-    points: &'a [u32],
 }
 
 /// What lines, one after another, take from a process in an execution.
@@ -159,10 +160,9 @@ fn put_next(
     let seat = &taking.seat;
     let count = grounds.take_step(seat, taking.values, state)?;
     let step = TakingStep {
-        execution: seat.execution,
+        seat: *seat,
         point: seat.points[seat.place as usize],
         values: &taking.values[..count],
-        points: seat.points,
     };
     put_step(text, subject, &step, state, grounds)?;
     state.number += 1;
@@ -178,34 +178,43 @@ fn put_step(
     grounds: &mut Grounds,
 ) -> Result<(), AllocError>
     requires subject { IsMatched subject.now }
-    requires execution { step.now.execution < length subject.now.protocol.now.simplices }
-    ensures { let s = state_of state.now in let v = step.now.point in let e = step.now.execution in
-        let left = left_at (values_of state.now) s.gone v in
+    requires execution { step.now.seat.execution < length subject.now.protocol.now.simplices }
+    ensures { let s = state_of state.now in let v = step.now.point in let x = step.now.seat in
+        let left = left_there x.tuples.now x.place (left_at (values_of state.now) s.gone v) in
         let tuples = grounds.old.needed.items in let reasons = grounds.old.reasons.items in
         OnOk result (string_bytes text.new ≡ string_bytes text.old
-        ++ indented s.depth (claim_text s.number v step.now.values.now e
-        ++ (execution_at (executions_in subject.now) e ++ (codes ", "
-        ++ (grounds_text step.now.points.now tuples reasons ++ rest_text v left))))) }
+        ++ indented s.depth (claim_text s.number v step.now.values.now x.execution
+        ++ (execution_at (executions_in subject.now) x.execution ++ (codes ", "
+        ++ (grounds_text x.points.now tuples reasons ++ rest_text v left))))) }
 {
     put_margin(text, state.depth)?;
     put_claim(text, state.number, step)?;
     subject
         .executions
-        .put(text, subject.task, subject.protocol, step.execution)?;
+        .put(text, subject.task, subject.protocol, step.seat.execution)?;
     write!(text, ", ")?;
-    put_grounds(text, step.points, grounds)?;
-    put_rest(text, step.point, state.left(step.point), &mut grounds.room)?;
+    put_grounds(text, step.seat.points, grounds)?;
+    put_rest(text, step.point, left_there(step, state), &mut grounds.room)?;
     writeln!(text)?;
     Ok(())
+}
+
+/// The values that are left to the point of a step, of those that it may decide in the execution.
+fn left_there(step: &TakingStep, state: &State) -> Mask
+    ensures { let x = step.now.seat in values_in result ≡ left_there x.tuples.now x.place
+        (left_at (values_of state.now) (state_of state.now).gone step.now.point) }
+{
+    let seat = &step.seat;
+    meet(state.left(step.point), values_at(seat.tuples, seat.place))
 }
 
 /// Adds what the step of a number says of the point, and where.
 fn put_claim(text: &mut String, number: usize, step: &TakingStep) -> Result<(), AllocError>
     ensures { let v = step.now.point in OnOk result (string_bytes text.new ≡ string_bytes text.old
-        ++ claim_text number v step.now.values.now step.now.execution) }
+        ++ claim_text number v step.now.values.now step.now.seat.execution) }
 {
     let point = step.point;
-    let execution = step.execution;
+    let execution = step.seat.execution;
     write!(text, "{number}. v{point} is not ")?;
     put_values(text, step.values)?;
     write!(text, ": in execution {execution}, ")?;

@@ -28,8 +28,8 @@ struct CheckResources<'a, T> {
 /// What this program is called, and what it says beside words that it does not take.
 const WFVERIFY: Program = Program {
     name: "wfverify",
-    unknown_word: "\n  note: the certificate is read from standard input, as in `wfverify --task FILE < CERTIFICATE`\n",
-    negative_number: "\n  note: numbers are not negative: rounds are 0 to 8\n",
+    usage: "the certificate is read from standard input and the task from its file, as in `wfverify --task FILE < CERTIFICATE`",
+    negative_number: "numbers are not negative: rounds are 0 to 8",
 };
 
 /// Checks what the words ask for, the first of which is the program's own name, and answers the
@@ -38,7 +38,7 @@ const WFVERIFY: Program = Program {
 /// 0: the certificate is accepted, and the line on the sink says what is; or a help or the version
 /// was written. 2: the task, the certificate or the words are refused. 3: memory ran out. 4: a read
 /// or a write failed, or the file could not be opened. A refusal is one line on `errors`. A second
-/// line says which words make no job, or which of two inputs is meant.
+/// line says which words make no job; lines with `note:` say in words what the refusal is about.
 pub fn run_checker<T: Threads + Sync, F: Files, R: Read, W: Write, E: Write>(
     rt: &T,
     alloc: Global,

@@ -1,6 +1,6 @@
 //! From the words of a command line to the exit status.
 
-ghost use Rattle.std.specs.Prelude.{IfOk};
+ghost use Rattle.std.specs.Prelude.{◌≡◌, IfOk, codes};
 ghost use Rattle.wf_io.specs.Ends.{CanCount, CanWrite};
 ghost use Rattle.wf_words.specs.Asked.{IsAsked};
 ghost use Rattle.wf_args.specs.Asked.{job_asked};
@@ -14,7 +14,7 @@ use crate::lone::{LoneJob, Resources};
 use std::alloc::Global;
 use std::io::{Read, Write};
 use std::thread::Threads;
-use wf_args::{Job, read_words};
+use wf_args::{Job, read_words, usage_of};
 use wf_files::{Files, Opener};
 use wf_finder::Listener;
 use wf_io::{Sink, Source};
@@ -23,13 +23,6 @@ use wf_service::{Program, Refusal, decline, refuse, tell};
 use wf_verify_engine::ProofListener;
 use wf_words::WordsFault;
 
-/// What this program is called, and what it says beside words that it does not take.
-const WFCHECK: Program = Program {
-    name: "wfcheck",
-    unknown_word: "\n  note: a task or a report is read from standard input, as in `wfcheck solve --rounds 1 --workers 1 < FILE`\n",
-    negative_number: "\n  note: numbers are not negative: rounds are 0 to 8, and workers 1 to 64\n",
-};
-
 /// Runs what the words ask for, the first of which is the program's own name, and answers the exit
 /// status. Where the words could not be had, that is the refusal.
 ///
@@ -37,9 +30,9 @@ const WFCHECK: Program = Program {
 /// 1: there is no map, or no obstruction was found. 2: the task, the rounds, the report, the proof
 /// or the words are refused, or the search for an obstruction gave up. 3: memory ran out. 4: a read
 /// or a write failed, or a file could not be opened. A refusal is one line on `errors`. A second
-/// line says which words make no job, or which of two inputs is meant. A note is one line too: the
-/// account of a search that was not refused, if the words ask for it, or the moduli without an
-/// obstruction.
+/// line says which words make no job; lines with `note:` say in words what the refusal is about.
+/// What is told of a run that was not refused is one line too: the account of a search, if the
+/// words ask for it, or the moduli without an obstruction.
 ///
 /// If the words ask for progress, the gate is told of a search, or of the check of a proof, while
 /// that goes on. What a gate does then is the caller's: what it writes is no part of `errors`.
@@ -65,11 +58,27 @@ pub fn run_program<
         sink.old sink.new errors.old errors.new result }
 {
     let resources = Resources { rt, alloc, gate };
+    let program = program_for(&words);
     let done = match job_of(alloc, words) {
         Ok(job) => do_job(&resources, folder, &job, source, sink),
-        Err(fault) => decline_words(alloc, sink, fault),
+        Err(fault) => decline_words(alloc, sink, fault, program),
     };
     end(alloc, errors, done)
+}
+
+/// What this program is called, and what it says beside these words if it does not take them.
+fn program_for(words: &Result<Vec<String>, WordsFault>) -> Program
+    ensures { result.name.now ≡ codes "wfcheck" }
+{
+    let usage = match words {
+        Ok(words) => usage_of(words),
+        Err(_) => usage_of(&[]),
+    };
+    Program {
+        name: "wfcheck",
+        usage,
+        negative_number: "numbers are not negative: rounds are 0 to 8, and workers 1 to 64",
+    }
 }
 
 /// What the words ask for, if they could be had.
@@ -115,11 +124,13 @@ fn decline_words<W: Write>(
     alloc: Global,
     sink: &mut Sink<W>,
     fault: WordsFault,
+    program: Program,
 ) -> Result<Done, Refusal>
-    requires { CanWrite sink.old }
+    requires name { program.name.now ≡ codes "wfcheck" }
+    requires ends { CanWrite sink.old }
     ensures { DeclinesWords fault sink.old sink.new result }
 {
-    after_doing(decline(alloc, sink, fault, WFCHECK))
+    after_doing(decline(alloc, sink, fault, program))
 }
 
 /// The exit status. A note is told, or a refusal. Nothing more can be done if that fails too.

@@ -1,4 +1,5 @@
 pub mod VersionText
+pub mod Notes
 pub mod Refusals
 pub mod Showing
 pub mod Laws

@@ -5,10 +5,9 @@ use Rattle.wf_io.specs.Texts.{Tells}
 use Rattle.wf_run.specs.declared.fault.RunFault.{RunFault}
 use Rattle.wf_run.specs.declared.fault.RunFault.TheVariants as run
 use Rattle.wf_run.specs.Faults.{fault_text}
-use Rattle.wf_draft.specs.declared.fault.TaskFault.TheVariants as task
 use Rattle.wf_files.specs.declared.files.FileState.{FileState}
-use Rattle.wf_files.specs.declared.files.FileState.TheVariants.{Unopened, Unread, Sound}
 use Rattle.wf_words.specs.Mistakes.{mistake_line}
+use Rattle.wf_service.specs.Notes.{file_note, note_line, note_of}
 use Rattle.wf_service.specs.declared.refusal.Refusal.{Refusal}
 use Rattle.wf_service.specs.declared.refusal.Refusal.TheVariants.{Run, RunWithFile, Words, Clap}
 
@@ -29,18 +28,10 @@ refusal_status (Clap e negative program) = 2
 abbrev pub refusal_line : List ℕ → List ℕ
 refusal_line name = codes "wfcheck: " ++ (name ++ 10 ∷ [])
 
--- which of two texts a refusal is about: the task in a file, or that on standard input
-abbrev pub file_note : RunFault → FileState → List ℕ
-file_note run.Read Unopened = codes "  note: the file that --task names can't be opened\n"
-file_note run.Read Unread = codes "  note: the file that --task names can't be read\n"
-file_note run.Read Sound = codes "  note: standard input can't be read\n"
-file_note (run.Task task.NotJson) file = codes "  note: this is about the file that --task names\n"
-file_note e file = []
-
 -- what is told of a refusal, where it is known
 abbrev pub refusal_text : Refusal → Option (List ℕ)
-refusal_text (Run e) = Some (refusal_line (fault_text e))
-refusal_text (RunWithFile e file) = Some (refusal_line (fault_text e) ++ file_note e file)
+refusal_text (Run e) = Some (refusal_line (fault_text e) ++ note_line (note_of e))
+refusal_text (RunWithFile e file) = Some (refusal_line (fault_text e) ++ (note_line (file_note e file) ++ note_line (note_of e)))
 refusal_text (Words mistake) = Some (refusal_line (codes "32 Words") ++ mistake_line mistake)
 refusal_text (Clap e negative program) = None
 

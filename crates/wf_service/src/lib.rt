@@ -9,6 +9,7 @@
 #![tactic(auto)]
 
 mod laws;
+mod notes;
 mod refusal;
 mod telling;
 mod version;

@@ -3,20 +3,21 @@
 ghost use Rattle.std.specs.Prelude.{◌≡◌};
 ghost use Rattle.wf_service.specs.Refusals.{as_file_refusal, as_refusal, fault_status, refusal_status, refusal_text};
 
+use crate::notes::{NoteLine, file_note, note_of};
 use clap::error::ErrorKind;
 use std::fmt;
-use wf_draft::TaskFault;
 use wf_files::FileState;
 use wf_run::RunFault;
 use wf_words::Mistake;
 
-/// What a program is called, and what it says beside words that it does not take.
+/// What a program is called, and what it says beside words that it does not take. Each text is a
+/// sentence without its full stop.
 #[derive(Clone, Copy, Debug)]
 pub struct Program {
     /// Its name.
     pub name: &'static str,
-    /// What is said beside a word that no command takes: most likely it is a file's name.
-    pub unknown_word: &'static str,
+    /// What is said beside a word that no command takes, and if one is missing: what is taken.
+    pub usage: &'static str,
     /// What is said if a word is a minus and digits, which is no number of an option.
     pub negative_number: &'static str,
 }
@@ -52,24 +53,14 @@ impl fmt::Display for Refusal {
 
     fn fmt<W: fmt::Write>(&self, f: &mut fmt::Formatter<W>) -> fmt::Result {
         match self {
-            Refusal::Run(fault) => writeln!(f, "wfcheck: {fault}"),
+            Refusal::Run(fault) => {
+                let note = NoteLine(note_of(fault));
+                write!(f, "wfcheck: {fault}\n{note}")
+            }
             Refusal::RunWithFile { fault, file } => {
-                writeln!(f, "wfcheck: {fault}")?;
-                match (fault, *file) {
-                    (RunFault::Read, FileState::Unopened) => {
-                        writeln!(f, "  note: the file that --task names can't be opened")
-                    }
-                    (RunFault::Read, FileState::Unread) => {
-                        writeln!(f, "  note: the file that --task names can't be read")
-                    }
-                    (RunFault::Read, FileState::Sound) => {
-                        writeln!(f, "  note: standard input can't be read")
-                    }
-                    (RunFault::Task(TaskFault::NotJson), _) => {
-                        writeln!(f, "  note: this is about the file that --task names")
-                    }
-                    _ => Ok(()),
-                }
+                let about = NoteLine(file_note(fault, *file));
+                let note = NoteLine(note_of(fault));
+                write!(f, "wfcheck: {fault}\n{about}{note}")
             }
             Refusal::Words(mistake) => writeln!(f, "wfcheck: 32 Words\nerror: {mistake}"),
             Refusal::Clap {
@@ -79,8 +70,15 @@ impl fmt::Display for Refusal {
             } => {
                 write!(f, "{error}")?;
                 match (error.kind(), *negative) {
-                    (ErrorKind::UnknownArgument, true) => f.write_str(program.negative_number),
-                    (ErrorKind::UnknownArgument, false) => f.write_str(program.unknown_word),
+                    (ErrorKind::UnknownArgument, true) => {
+                        writeln!(f, "\n  note: {}", program.negative_number)
+                    }
+                    (
+                        ErrorKind::UnknownArgument
+                        | ErrorKind::InvalidSubcommand
+                        | ErrorKind::MissingRequiredArgument,
+                        _,
+                    ) => writeln!(f, "\n  note: {}", program.usage),
                     _ => Ok(()),
                 }
             }

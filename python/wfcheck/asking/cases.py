@@ -21,7 +21,7 @@ from .runs import Clock, Ended, Late, Scope
 CASE, AUTO = "case", "auto"
 # the refusal of a lemma that doesn't follow, and those of a proof that is wrong in a line or as a whole
 NOT_IMPLIED = "wfcheck: 40 "
-WRONG = re.compile(r"wfcheck: (?:(?:38|39|40) \w+ (?P<line>\d+)|4[12] .*)\s*")
+WRONG = re.compile(r"wfcheck: (?:(?:38|39|40) \w+ (?P<line>\d+)|4[12] .*)")
 
 
 class CaseAttempt(Attempt):
@@ -149,7 +149,7 @@ class Cases:
 
     def blame(self, proofs: List[CaseProof], ends: List[int], ended: Ended) -> None:
         """Takes away the case proof in which a proof is wrong, or all where it is not seen in which; none where the proof was not judged."""
-        found = WRONG.fullmatch(ended.said)
+        found = WRONG.fullmatch(ended.line())
         if not found:
             return
         wrong = [it for it, end in zip(proofs, ends) if found["line"] and int(found["line"]) <= end][:1] or proofs

@@ -73,7 +73,11 @@ class Ended(NamedTuple):
             return "it wrote more than one file may have (--disk)"
         if self.status < 0:
             return f"it was ended by {signal.Signals(-self.status).name}"
-        return self.said.strip() or f"it ended with status {self.status}"
+        return self.line() or f"it ended with status {self.status}"
+
+    def line(self) -> str:
+        """The first line that it said: behind the line of a refusal there may be notes."""
+        return self.said.strip().partition("\n")[0]
 
 
 def not_cut_off() -> None:

@@ -248,9 +248,11 @@ def refusal(said: str, task: pathlib.Path) -> str:
     """What the program says of a question that it refuses, and where that is told in words."""
     if not said.startswith("wfcheck: "):
         return said.rstrip("\n")
-    about_task = re.match(r"wfcheck: (?:[1-9]|1[0-4]|18) ", said)
+    line, _, notes = said.partition("\n")
+    about_task = re.match(r"wfcheck: (?:[1-9]|1[0-4]|18) ", line)
     named = f"./{task}" if str(task).startswith("-") else task
-    return said + (f"{linter()} {named} says where, in words" if about_task else 'docs/FORMAT.md, "Refusals", says what that means')
+    # the program's own note about a task would say the same
+    return f"{line}\n{linter()} {named} says where, in words" if about_task else f'{line}\n{notes}docs/FORMAT.md, "Refusals", says what that means'
 
 
 def main(listed: List[str], command: List[str], name: str = "ask") -> int:

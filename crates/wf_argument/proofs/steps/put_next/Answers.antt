@@ -4,7 +4,7 @@ use Rattle.wf_argument.specs.Seats.{point_at}
 use Rattle.wf_argument.specs.State.{State, left_at}
 use Rattle.wf_argument_words.specs.Subject.{executions_in, problem_in}
 use Rattle.wf_argument_words.specs.Text.{execution_at, indented, rest_text}
-use Rattle.wf_argument.specs.Text.{claim_text, grounds_text}
+use Rattle.wf_argument.specs.Text.{claim_text, grounds_text, left_there}
 use Rattle.wf_argument.specs.Trail.{state_of}
 use Rattle.wf_argument.proofs.Places.{told_found}
 use Rattle.wf_argument.proofs.PartSteps.{is_step, state_step, told_step}
@@ -21,7 +21,7 @@ returns-clause-text c =
     let values = take count c.args.taking.now.values.now in let took = c.in_ok-count.ensures in
     let after = c.take_step.new.state in
     let noted = c.take_step.new.self.needed.items in let why = c.take_step.new.self.reasons.items in
-    let line : State → List ℕ → List ℕ = λ s all. string_bytes c.args.text.now ++ indented s.depth (claim_text s.number v values e ++ (execution_at es e ++ (codes ", " ++ (grounds_text seat.points.now noted why ++ rest_text v (left_at all s.gone v))))) in
+    let line : State → List ℕ → List ℕ = λ s all. string_bytes c.args.text.now ++ indented s.depth (claim_text s.number v values e ++ (execution_at es e ++ (codes ", " ++ (grounds_text seat.points.now noted why ++ rest_text v (left_there seat.tuples.now seat.place (left_at all s.gone v)))))) in
     let same = ap values_in took.values ∙ c.requires.values in
     let one : after.number + 1 ≡ suc after.number = omega arith in
     let next : State → State = λ s. record s { number = suc s.number } in

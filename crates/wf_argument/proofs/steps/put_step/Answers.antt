@@ -29,4 +29,4 @@ pub returns : goal.returns
 returns c =
     step_line (string_bytes c.args.text.now) (string_bytes c.put_margin.new.text) (string_bytes c.put_claim.new.text) (string_bytes c.put.new.text) (string_bytes c.write.new.self) (string_bytes c.put_grounds.new.text) (string_bytes c.put_rest.new.text) (string_bytes c.writeln.new.self)
     _ _ _ _ _ _ _ c.in_ok-put_margin.ensures c.in_ok-put_claim.ensures c.in_ok-put.ensures c.in_ok-write.ensures.bytes c.in_ok-put_grounds.ensures
-    (c.in_ok-put_rest.ensures ∙ ap (λ left. string_bytes c.put_grounds.new.text ++ rest_text c.args.step.now.point left) c.left.ensures) c.in_ok-writeln.ensures.bytes
+    (c.in_ok-put_rest.ensures ∙ ap (λ left. string_bytes c.put_grounds.new.text ++ rest_text c.args.step.now.point left) c.left_there.ensures) c.in_ok-writeln.ensures.bytes

@@ -1,0 +1,142 @@
+//! What is told below the line of a refusal.
+
+ghost use Rattle.std.specs.Prelude.{◌≡◌, Some, option_map};
+ghost use Rattle.wf_service.specs.Notes.{build_note, clausal_note, file_note, hinted_note, note_line, note_of, report_note, task_note};
+
+use std::fmt;
+use wf_complex::BuildFault;
+use wf_draft::{Key, TaskFault};
+use wf_files::FileState;
+use wf_lrat::HintFault;
+use wf_report::CertFault;
+use wf_run::RunFault;
+use wf_rup::ProofFault;
+
+/// Who says more of a text that is no task.
+const LINT: &str = "`wfcheck-lint FILE` says in words why a file is no task";
+
+/// What a solver's proof has to be about.
+const PROOF: &str =
+    "a proof is about what `wfcheck cnf` writes for the same task, rounds and branch; --lrat is for proofs with hints alone";
+
+/// A note below a refusal, if there is one: a line of its own.
+#[derive(Clone, Copy)]
+pub(crate) struct NoteLine(pub(crate) Option<&'static str>);
+
+impl fmt::Display for NoteLine {
+    ghost output = { λ line. Some (note_line (option_map (λ s. s.now) line.0)) };
+
+    fn fmt<W: fmt::Write>(&self, f: &mut fmt::Formatter<W>) -> fmt::Result {
+        match self.0 {
+            Some(note) => writeln!(f, "  note: {note}"),
+            None => Ok(()),
+        }
+    }
+}
+
+/// Which of two texts a refusal is about.
+pub(crate) fn file_note(fault: &RunFault, file: FileState) -> Option<&'static str>
+    ensures { option_map (λ s. s.now) result ≡ file_note fault.now file }
+{
+    match (*fault, file) {
+        (RunFault::Read, FileState::Unopened) => {
+            Some("the file that --task names can't be opened")
+        }
+        (RunFault::Read, FileState::Unread) => Some("the file that --task names can't be read"),
+        (RunFault::Read, FileState::Sound) => Some("standard input can't be read"),
+        (RunFault::Task(TaskFault::NotJson), _) => {
+            Some("this is about the file that --task names")
+        }
+        _ => None,
+    }
+}
+
+/// What is said of a refusal to whoever meets it for the first time.
+pub(crate) fn note_of(fault: &RunFault) -> Option<&'static str>
+    ensures { option_map (λ s. s.now) result ≡ note_of fault.now }
+{
+    match *fault {
+        RunFault::Task(fault) => task_note(fault),
+        RunFault::Build(fault) => build_note(fault),
+        RunFault::Cert(fault) => report_note(fault),
+        RunFault::Proof(fault) => clausal_note(fault),
+        RunFault::Hints(fault) => hinted_note(fault),
+        RunFault::OtherRounds => Some("the third line of a report tells its rounds"),
+        RunFault::NoBranch { .. } => {
+            Some("branches are numbered from 0, and `wfcheck branches` lists them")
+        }
+        _ => None,
+    }
+}
+
+/// What is said of a text that is no task.
+fn task_note(fault: TaskFault) -> Option<&'static str>
+    ensures { option_map (λ s. s.now) result ≡ task_note fault }
+{
+    match fault {
+        TaskFault::NotJson => Some(
+            "a task file is JSON text; `wfcheck-lint FILE` says in words why a file is no task",
+        ),
+        TaskFault::Shape(Key::Version, _) => Some(
+            "a task file has the key \"version\", which is 1 or 2; `wfcheck-lint FILE` says in words why a file is no task",
+        ),
+        TaskFault::TooLong
+        | TaskFault::Processes
+        | TaskFault::Value
+        | TaskFault::TooMany(_)
+        | TaskFault::OutOfMemory => None,
+        _ => Some(LINT),
+    }
+}
+
+/// What is said of a complex that is too large.
+fn build_note(fault: BuildFault) -> Option<&'static str>
+    ensures { option_map (λ s. s.now) result ≡ build_note fault }
+{
+    match fault {
+        BuildFault::Rounds => Some("the number of rounds is 0 to 8"),
+        BuildFault::TooManyExecutions => Some(
+            "after so many rounds the task has more than 500000 executions",
+        ),
+        BuildFault::OutOfMemory => None,
+    }
+}
+
+/// What is said of a text that is no report, of a report of something else, and of one without its
+/// lines.
+fn report_note(fault: CertFault) -> Option<&'static str>
+    ensures { option_map (λ s. s.now) result ≡ report_note fault }
+{
+    match fault {
+        CertFault::Syntax(1) => Some(
+            "standard input has no report; a task goes behind --task, a solver's proof to `wfcheck proof`, an obstruction to verify or explain",
+        ),
+        CertFault::Header(_) => Some(
+            "the number in this line is not that of the task: the text may be about another task or other rounds",
+        ),
+        CertFault::Unfinished => Some(
+            "the lines of the report end too soon; `wfcheck solve --verdict` leaves them out",
+        ),
+        _ => None,
+    }
+}
+
+/// What is said of a clausal proof.
+fn clausal_note(fault: ProofFault) -> Option<&'static str>
+    ensures { option_map (λ s. s.now) result ≡ clausal_note fault }
+{
+    match fault {
+        ProofFault::Binary | ProofFault::OutOfMemory => None,
+        _ => Some(PROOF),
+    }
+}
+
+/// What is said of a proof with hints.
+fn hinted_note(fault: HintFault) -> Option<&'static str>
+    ensures { option_map (λ s. s.now) result ≡ hinted_note fault }
+{
+    match fault {
+        HintFault::Binary | HintFault::OutOfMemory => None,
+        _ => Some(PROOF),
+    }
+}
