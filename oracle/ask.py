@@ -10,9 +10,10 @@ Nothing that the solver says counts unless it is accepted so. ROUNDS is a number
 {output} if it writes a proof as text, or its model to a file. Without it the first of these four is taken that is on the path; if there
 is none, an obstruction alone is looked for. Each step has --seconds, 60 if it isn't given. --keep names a folder for what was accepted.
 
-The last line is that of tools/ask: `never`, `from R`, `none up to R`, `map at R` or `not decided`. The status is 0 for a map, 1 for none
+The last line is that of tools/ask: `never, by 1 balance modulo 2`, `from R`, `none up to R`, `map at R` or `not decided`. The status is 0 for a map, 1 for none
 and never, 2 if the words or the task are refused, and 3 if the question was not decided."""
 import argparse
+import collections
 import contextlib
 import os
 import pathlib
@@ -54,6 +55,15 @@ def run(words, seconds, wrote, given=None):
     return status == 0, f"{'done' if last == 'end' else last} ({time.monotonic() - begun:.2f} s)"
 
 
+def nodes_of(text):
+    """How many nodes of each kind an obstruction has, and the moduli of its balances."""
+    lines = [it.split() for it in text.split("\n")]
+    many = collections.Counter(it[0] for it in lines if it and it[0] in ("split", "cover", "case", "balance"))
+    moduli = sorted({int(it[1]) for it in lines if it[:1] == ["balance"]})
+    told = ", ".join(f"{many[it]:,} {it}{'s' * (many[it] > 1)}" for it in ("split", "cover", "case", "balance") if many[it])
+    return told + f" modulo {', '.join(map(str, moduli))}" * bool(moduli)
+
+
 class Run:
     """A run about one copy of a task's text, in a folder of its own."""
 
@@ -81,12 +91,12 @@ class Run:
             shutil.copyfile(self.folder / file, place)
 
     def is_never(self):
-        """Whether an obstruction is found, and holds."""
+        """The nodes of an obstruction that is found and holds, in words, or None."""
         found = self.script("finding.py", self.task, wrote="found")
         if found and self.script("second_opinion.py", self.task, self.folder / "found", wrote="said"):
             self.kept("found", f"{self.name}.obstruction")
-            return True
-        return False
+            return nodes_of((self.folder / "found").read_text())
+        return None
 
     def answer(self, rounds):
         """What the solver says of a number of rounds, if it is accepted: map, none or nothing."""
@@ -171,7 +181,8 @@ def main():
         run_of = Run(asked, solver, pathlib.Path(folder))
         run_of.task.write_bytes(text)
         print(f"{run_of.name} after every number of rounds:", flush=True)
-        last, status = ("never", STATUS["none"]) if run_of.is_never() else run_of.last(rounds)
+        nodes = run_of.is_never()
+        last, status = (f"never, by {nodes}", STATUS["none"]) if nodes else run_of.last(rounds)
     print(f"{run_of.name}: {last}")
     return status
 

@@ -105,7 +105,7 @@ class Outcomes(Case):
 
     def test_ask_says_what_the_last_line_says(self):
         never = wfcheck.ask(known("consensus-2"), 0, 3, solver="search")
-        self.assertEqual((type(never), str(never)), (wfcheck.Never, "consensus-2: never"))
+        self.assertEqual((type(never), str(never)), (wfcheck.Never, "consensus-2: never, by 1 balance modulo 2"))
         self.assertEqual(wfcheck.verify(known("consensus-2"), never.obstruction), "accepted none at every number of rounds")
         task = known("renaming-3-names-5")
         found = wfcheck.ask(task, 0, 3, solver="search")

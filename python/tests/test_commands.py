@@ -97,7 +97,7 @@ class Asking(Case):
 
     def test_ask_as_it_is_installed(self):
         status, told = self.python("-c", DOOR.format("ask"), "consensus-2", "1")
-        self.assertEqual((status, told.rstrip().split("\n")[-1]), (1, "consensus-2: never"))
+        self.assertEqual((status, told.rstrip().split("\n")[-1]), (1, "consensus-2: never, by 1 balance modulo 2"))
         self.assertRegex(self.python("-c", DOOR.format("ask"), "--help")[1], "^usage: wfcheck-ask TASK .. ROUNDS")
 
     def test_a_job_asks_by_the_same_door(self):

@@ -2,7 +2,7 @@
 import dataclasses
 from typing import Optional, Union
 
-from .answers import Map, Obstruction, Proof, Refutation
+from .answers import Map, Obstruction, Proof, Refutation, nodes_in_words
 from .tasks import Task
 
 # what shows that there is no map after some rounds
@@ -16,7 +16,7 @@ class Never:
     obstruction: Obstruction
 
     def __str__(self) -> str:
-        return f"{self.task.name}: never"
+        return f"{self.task.name}: never, by {nodes_in_words((it.name, it.numbers[0]) for it in self.obstruction.nodes)}"
 
 
 @dataclasses.dataclass(frozen=True)

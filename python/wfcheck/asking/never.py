@@ -7,6 +7,7 @@ import pathlib
 import re
 from typing import List
 
+from ..answers import nodes_in_words
 from . import table
 from .notes import Room, keep
 from .questions import answered
@@ -90,16 +91,11 @@ def is_accepted(words: argparse.Namespace, file: pathlib.Path, scope: Scope, clo
     if accepted:
         if words.by_branch:
             words.given.close()
-        say(f"    never: no map after any number of rounds (obstruction of {in_words(file)})")
+        words.by = in_words(file)
+        say(f"    never: no map after any number of rounds, by {words.by}")
     return accepted
 
 
 def in_words(file: pathlib.Path) -> str:
-    """How many nodes an obstruction has, and how many multipliers modulo which numbers."""
-    text = file.read_text(errors="replace")
-    nodes, multipliers = NODE.findall(text), text.count("\nm ")
-    moduli = sorted({int(number) for name, number in nodes if name == "balance"})
-    told = f"{len(nodes):,} {'node' if len(nodes) == 1 else 'nodes'}"
-    if not moduli:
-        return told
-    return f"{told}, {multipliers:,} {'multiplier' if multipliers == 1 else 'multipliers'} modulo {', '.join(map(str, moduli))}"
+    """How many nodes of each kind an obstruction has, and the moduli of its balances."""
+    return nodes_in_words((name, int(number)) for name, number in NODE.findall(file.read_text(errors="replace")))

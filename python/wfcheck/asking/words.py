@@ -383,7 +383,7 @@ def of_never(words: argparse.Namespace) -> int:
     """The status of a task that has no map after any number of rounds. All its branches are decided then."""
     if not words.by_branch:
         words.given.close()
-        say(f"{words.task.stem}: never")
+        say(f"{words.task.stem}: never, by {words.by}")
     return 0 if words.branch is not None or words.share else branches.STATUS["none"]
 
 
