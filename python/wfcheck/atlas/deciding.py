@@ -61,9 +61,9 @@ class Asked:
             raise WrongAnswer(f"{self.task.name}: {said!r}, and not {as_what!r}")
         return True
 
-    def obstruction(self) -> Optional[Line]:
-        """The line of an obstruction, if one is found and accepted."""
-        text = self.wrote(self.seconds, "obstruction")
+    def obstruction(self, *options: Word) -> Optional[Line]:
+        """The line of an obstruction, if one is found with these options and accepted."""
+        text = self.wrote(self.seconds, "obstruction", *options)
         if not text or not self.is_accepted(text, EVERY):
             return None
         nodes = obstruction_of(self.task, text).nodes
@@ -104,7 +104,9 @@ class Asked:
             if True in found.values():
                 break
             found[rounds] = self.has_map(rounds)
-        return Line(self.task.name, summed(found), asked=" ".join(map(str, self.asked)))
+        answer, asked = summed(found), " ".join(map(str, self.asked))
+        never = None if answer.startswith("from") else self.obstruction("--covers", 1)
+        return never._replace(asked=asked) if never else Line(self.task.name, answer, asked=asked)
 
 
 def summed(found: Dict[int, Optional[bool]]) -> str:
