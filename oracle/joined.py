@@ -10,6 +10,7 @@ import sys
 
 import independent
 import plain
+import refusals
 import second_opinion
 import task_file
 
@@ -138,7 +139,7 @@ def main():
     try:
         sys.stdout.write(report(task_file.read(asked.task.read_bytes())[0], asked.rounds, sys.stdin.buffer.read()))
     except (plain.Refused, task_file.Refused) as refused:
-        print(f"wfcheck: {getattr(refused, 'line', refused)}", file=sys.stderr)
+        sys.stderr.write(refusals.told(str(getattr(refused, "line", refused)), is_filed=True))
         return 2
     return 0
 
