@@ -14,7 +14,7 @@ from .questions import answered
 from .runs import Clock, Ended, Late, Refused, Scope, say
 
 ACCEPTED = "accepted none at every number of rounds"
-FIRST_BLOCK, GAVE_UP, UNKNOWN = "wfcheck: 50 FirstBlock", "wfcheck: 60 GaveUp", "error: unexpected argument '--covers'"
+FIRST_BLOCK, GAVE_UP = "wfcheck: 50 FirstBlock", "wfcheck: 60 GaveUp"
 # the options with which an obstruction is looked for in turn
 OPTIONS: List[List[str]] = [[], ["--covers", "1"]]
 NONE_FOUND = 1
@@ -61,8 +61,7 @@ def is_found(words: argparse.Namespace, file: pathlib.Path, scope: Scope, clock:
 
 
 def sought(words: argparse.Namespace, file: pathlib.Path, scope: Scope, clock: Clock, options: List[str]) -> Ended:
-    """How the program ended that looked for an obstruction with these options. Nothing is said if it refuses a task with a first block, or if
-    it is one of before 0.5.0, which tries no covers."""
+    """How the program ended that looked for an obstruction with these options. Nothing is said if it refuses a task with a first block."""
     asked = ["obstruction", *options]
     head = [] if options else [f"{words.task.stem} after every number of rounds:"]
     file.unlink(missing_ok=True)
@@ -71,7 +70,7 @@ def sought(words: argparse.Namespace, file: pathlib.Path, scope: Scope, clock: C
     except Late:
         say("\n".join([*head, f"    wfcheck {' '.join(asked)}: no end within the {clock.seconds:g} s that the obstruction has"]))
         raise
-    if ended.said.startswith((FIRST_BLOCK, UNKNOWN)):
+    if ended.said.startswith(FIRST_BLOCK):
         return ended
     if ended.status == 2 and not ended.said.startswith(GAVE_UP):
         raise Refused(ended.said)
