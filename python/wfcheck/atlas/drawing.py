@@ -4,7 +4,7 @@ First come three densities: of the largest simplices, of the faces between, and 
 before their faces. Of the tuples that may be allowed, each is with the density; if none is, one of them. A tuple may be allowed at a
 face if each larger simplex has a tuple that goes on from it. If there is none, the task is drawn again. So what is drawn is pruned."""
 import random
-from typing import Iterator, List, Optional
+from typing import Iterator, List, Optional, Set
 
 from .shapes import Rules, Shape, shadow
 
@@ -14,7 +14,7 @@ DENSITIES = ((0.15, 0.9), (0.2, 1.0), (0.1, 1.0))
 
 def codes(shape: Shape, seed: int, many: int) -> List[str]:
     """The codes of the first so many tasks that are unlike those before, ascending."""
-    found = set()
+    found: Set[str] = set()
     drawn = draws(shape, seed)
     while len(found) < many:
         found.add(next(drawn))
