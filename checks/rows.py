@@ -7,7 +7,7 @@ A row is a folder: args (a command line's words), stdin, stdout or stdout.sha256
 The args may name a file of another row, as `../ROW/task.json`. What is not there is empty. All of standard error is compared, the
 argument parser's own text and the notes below it too; the lines `settled N of M`, which workers tell in any order, are sorted first. The
 peak memory of a run has to stay below MEGABYTES, or below what LARGER has for its row: no contract bounds how much memory a run takes.
-Each run has a stack of STACK bytes.
+Each run has a stack of STACK bytes, and no environment, which would take room there.
 The last line is `N passed, M failed`.
 """
 import concurrent.futures
@@ -37,7 +37,7 @@ import os, resource, sys
 child = os.fork()
 if not child:
     resource.setrlimit(resource.RLIMIT_STACK, (int(sys.argv[2]),) * 2)
-    os.execv(sys.argv[3], sys.argv[3:])
+    os.execve(sys.argv[3], sys.argv[3:], {})
 _, status, used = os.wait4(child, 0)
 os.write(int(sys.argv[1]), b"%d" % used.ru_maxrss)
 os._exit(os.waitstatus_to_exitcode(status) & 255)
