@@ -137,6 +137,10 @@ def lost(allowed, points, processes, box):
 def close(made, box, lines):
     """Writes the lines of closing a box. Answers what they leave: None where a point was emptied."""
     box, count = [set(c) for c in box], -1
+    empty = next((v for v, c in enumerate(box) if not c), None)
+    if empty is not None:
+        lines.append(f"z {empty}")
+        return None
     while count != len(lines):
         count = len(lines)
         for e, (processes, points, allowed) in enumerate(made.executions):
