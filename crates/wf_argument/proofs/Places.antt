@@ -11,7 +11,7 @@ use Rattle.wf_model.specs.Check.{place_of}
 use Rattle.wf_complex.specs.Protocol.{Built, IsProtocol}
 use Rattle.wf_complex.proofs.Lemmas.{constraint_there, got, rule_inside, rule_there}
 use Rattle.wf_simplex.specs.Entries.{place_in}
-use Rattle.wf_simplex.proofs.Places.{place_none, place_some}
+use Rattle.wf_simplex.proofs.Lemmas.{place_none, place_some}
 use Rattle.wf_argument_words.specs.Text.{NamedExecutions, execution_at, indented, points_in, rest_text}
 use Rattle.wf_argument.specs.State.{Gone, State, Taking, left_at, needed, take_each}
 use Rattle.wf_argument.specs.Text.{claim_text, grounds_text, left_there, taking_text, told_taking}

@@ -2,7 +2,7 @@
 use Rattle.std.proofs.Common.{◌≡◌, ℕ, zero, suc, ◌+◌, ◌<◌, ◌≤◌, ◌==◌, ◌||◌, Bool, true, false, cond, List, [], ◌∷◌, ◌++◌, map, filter, reverse, take, drop, length, get_or, not, Some, append_assoc, refl, sym, ap, ◌∙◌, arith}
 use Rattle.std.specs.List.{slice_set}
 use Rattle.std.proofs.lemmas.List.{reverse-append, take_at, map-set, drop_more, drop_all}
-use Rattle.wf_model.proofs.Basics.{equal_turned}
+use Rattle.wf_model.proofs.Lemmas.{equal_turned}
 use Rattle.wf_argument.specs.State as state
 use Rattle.std.specs.Option.{is_some}
 use Rattle.wf_set.specs.Sets.{values_in}

@@ -14,7 +14,7 @@ use Rattle.wf_model.specs.Points.{points as view_points}
 use Rattle.wf_complex.specs.Protocol.{Built, IsProtocol}
 use Rattle.wf_argument_words.specs.Text.{named_executions}
 use Rattle.wf_argument.specs.State.{start}
-use Rattle.wf_model.proofs.Basics.{or_none}
+use Rattle.wf_model.proofs.Lemmas.{or_none}
 use Rattle.wf_lines.specs.Lines.{line_of}
 use Rattle.wf_lines.specs.declared.line.Line.{Line}
 use Rattle.wf_argument.specs.Parts.{parts_of}

@@ -12,18 +12,14 @@ use Rattle.wf_model.specs.Simplex.{Simplex, values_of}
 use Rattle.wf_model.specs.Word.{Word, words}
 use Rattle.wf_model.specs.Task.{Task, Rule, inputs, first_block}
 use Rattle.wf_model.specs.Execution.{Execution, executions_on, executions}
-use Rattle.wf_model.proofs.Basics.{below_next}
-use Rattle.wf_model.proofs.WellFormed.{words_long}
+use Rattle.wf_model.proofs.Lemmas.{below_next, words_long}
 use Rattle.wf_complex.specs.Layout.{turns}
 use Rattle.wf_complex.specs.Protocol.{Built, IsProtocol}
-use Rattle.wf_complex.proofs.Bounds.{suc_times}
-use Rattle.wf_complex.proofs.Executions.{length-lists_of}
-use Rattle.wf_trim.proofs.Places.{begun_by, begun, there_within, MadeOf, made_of, made_there, as_many_numbers}
+use Rattle.wf_complex.proofs.Lemmas.{suc_times, length-lists_of, as_many_executions}
+use Rattle.wf_trim.proofs.Lemmas.{begun_by, begun, there_within, MadeOf, made_of, made_there, as_many_numbers, length-on}
 use Rattle.wf_argument_words.specs.declared.executions.ExecutionRange.{ExecutionRange}
 use Rattle.wf_argument_words.specs.Table.{Naming, spans_of, words_up_to, break_text}
 use Rattle.wf_argument_words.specs.Text.{Names, argument_names, others_text, block_text, block_of, named, participant_text, plain_names, ranked_from, word_text, words_text, execution_text}
-use Rattle.wf_complex.proofs.Lemmas.{as_many_executions}
-use Rattle.wf_trim.proofs.Lemmas.{length-on}
 
 -- ---- a list of words by division
 

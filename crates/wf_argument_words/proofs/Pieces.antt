@@ -9,7 +9,7 @@ use Rattle.wf_model.specs.Simplex.{Simplex}
 use Rattle.wf_io.specs.Seen.{Writing}
 use Rattle.wf_io.specs.Texts.{PutsText, TookBeginning}
 use Rattle.wf_io.specs.declared.sink.WriteFault.{WriteFault}
-use Rattle.wf_io.proofs.PagePieces.{IsPut, begun, went_on, stopped, last_put}
+use Rattle.wf_io.proofs.Lemmas.{IsPut, begun, went_on, stopped, last_put}
 use Rattle.wf_argument_words.specs.Listing.{before_process}
 use Rattle.wf_argument_words.specs.Table.{break_text}
 use Rattle.wf_argument_words.specs.Text.{block_text, others_text, participant_text, plain_names, word_text, words_text}

@@ -6,8 +6,7 @@ use Rattle.std.proofs.lemmas.List.{get_or-map, length-map}
 use Rattle.std.proofs.lemmas.List.Elements.{recursion_from_All}
 use Rattle.wf_model.specs.Simplex.{Simplex, is_ascending, is_nonempty, processes_of, values_of}
 use Rattle.wf_model.specs.Task.{IsSimplexWithin, IsTask, IsTaskSimplex, Rule, Task, Tuple, inputs, largest_value}
-use Rattle.wf_model.proofs.Headline.{each_of_map}
-use Rattle.wf_model.proofs.Tasks.{inputs_within}
+use Rattle.wf_model.proofs.Lemmas.{each_of_map, inputs_within}
 use Rattle.wf_counting.specs.Rules.{no_rule, rule_at}
 use Rattle.wf_task.specs.TaskSeen.{rules_seen}
 use Rattle.wf_refine.specs.AtHand.{at_hand}

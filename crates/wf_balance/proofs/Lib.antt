@@ -1,3 +1,4 @@
+pub mod Lemmas
 pub mod FilledValues
 pub mod Digits
 pub mod Inputs

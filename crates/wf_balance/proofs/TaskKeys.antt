@@ -4,7 +4,7 @@ use Rattle.std.specs.List.{AllByRecursion}
 use Rattle.std.proofs.lemmas.List.Elements.{recursion_from_All}
 use Rattle.wf_model.specs.Simplex.{Simplex, values_of}
 use Rattle.wf_model.specs.Task.{IsTaskSimplex, Rule, Task, Tuple}
-use Rattle.wf_model.proofs.Headline.{each_of_map}
+use Rattle.wf_model.proofs.Lemmas.{each_of_map}
 use Rattle.wf_counting.specs.Rules.{rule_at}
 use Rattle.wf_trees.specs.Balance.{IsMultiplier, Multiplier, counts_nothing}
 use Rattle.wf_balance.specs.Keys.{IsTestAt, IsTestOf, digits_code, labels, weight_under}

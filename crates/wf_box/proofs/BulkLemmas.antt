@@ -9,13 +9,9 @@ use Rattle.wf_model.specs.Problem.{Problem, constraint_at}
 use Rattle.wf_model.specs.Box.{Box, candidates, without, count}
 use Rattle.wf_model.specs.Refutation as refutation
 use Rattle.wf_model.specs.Closing.{Step, and_then, keeps, take_out}
-use Rattle.wf_model.proofs.Ascending.{Ascends}
-use Rattle.wf_model.proofs.Basics.{has-filter}
-use Rattle.wf_model.proofs.CanonicalSteps.{count_set_less}
-use Rattle.wf_model.proofs.LastSweep.{each_has, filter_less}
+use Rattle.wf_model.proofs.Lemmas.{Ascends, has-filter, count_set_less, each_has, filter_less}
 use Rattle.wf_complex.specs.Protocol.{point_in}
-use Rattle.wf_set.proofs.Lemmas.{by_two, set_at}
-use Rattle.wf_set.proofs.SetLaws.{values_ascend}
+use Rattle.wf_set.proofs.Lemmas.{by_two, set_at, values_ascend}
 use Rattle.wf_set.specs.Sets.{box_of, values_in}
 use Rattle.wf_lines.specs.Lines.{line_of}
 use Rattle.wf_lines.specs.declared.line.Line.{Line}

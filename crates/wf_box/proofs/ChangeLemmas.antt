@@ -9,7 +9,7 @@ use Rattle.std.specs.List.{position_from}
 use Rattle.std.proofs.lemmas.Iterator.Adapters.{position_from-zero}
 use Rattle.wf_model.specs.Lists.{has}
 use Rattle.wf_model.specs.Box.{Box, candidates, count, first_open}
-use Rattle.wf_model.proofs.Order.{only as only_value}
+use Rattle.wf_model.proofs.Lemmas.{only as only_value}
 use Rattle.wf_set.specs.Sets.{box_of, values_in}
 use Rattle.wf_box.specs.Changes.{IsGrown, IsTracked, IsUndone, taken_back, words_after}
 use Rattle.wf_box.specs.declared.tracked.Change.{Change}

@@ -6,12 +6,11 @@ use Rattle.std.proofs.Math.ListN.{get_or-map}
 use Rattle.std.proofs.lemmas.Bool.{cases_eq, eq-eqb, le-ltb, lt-ltb, ne_eqb, and_parts}
 use Rattle.std.proofs.lemmas.List.{length-map}
 use Rattle.std.proofs.lemmas.List.Sums.{position_or_len_is}
-use Rattle.wf_model.proofs.CanonicalSteps.{length_filter}
+use Rattle.wf_model.proofs.Lemmas.{length_filter, suc_not_zero}
 use Rattle.wf_set.specs.Parts.{part_limit, part_values}
 use Rattle.wf_set.specs.Sets.{values_in}
 use Rattle.wf_set.proofs.Lemmas.{length-values_in, part_of, values_of_first}
 use Rattle.wf_box.specs.Kept.{is_narrow}
-use Rattle.wf_model.proofs.Basics.{suc_not_zero}
 
 -- ---- a test that each value passes
 

@@ -26,8 +26,7 @@ use Rattle.wf_lines.specs.declared.line.Line.{Line}
 use Rattle.wf_box.proofs.StepLemmas.{then_keeps, then_then}
 use Rattle.std.specs.Prelude.{◌==◌}
 use Rattle.std.proofs.lemmas.List.Elements.{All-from_recursion}
-use Rattle.wf_model.proofs.Order.{position_none}
-use Rattle.wf_model.proofs.SolvedBoxes.{sweep_nothing}
+use Rattle.wf_model.proofs.Lemmas.{position_none, sweep_nothing}
 use Rattle.wf_box.proofs.CloseLemmas.{empty_there, point_there}
 use Rattle.wf_set.proofs.Lemmas.{set_at}
 

@@ -12,7 +12,7 @@ use Rattle.wf_box.specs.Closes.{more_sweeps, sweep_count}
 use Rattle.wf_box.specs.Steps.{reached}
 use Rattle.wf_lane.proofs.Lemmas.{few_values}
 use Rattle.wf_box.proofs.StepLemmas.{then_then}
-use Rattle.wf_model.proofs.CanonicalSteps.{count_cons}
+use Rattle.wf_model.proofs.Lemmas.{count_cons}
 
 -- ---- how many candidates there can be
 

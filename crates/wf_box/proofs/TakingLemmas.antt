@@ -8,19 +8,15 @@ use Rattle.wf_model.specs.Lists.{has}
 use Rattle.wf_model.specs.Box.{Box, candidates, without, count}
 use Rattle.wf_model.specs.Refutation as refutation
 use Rattle.wf_model.specs.Closing.{Step, Loss, and_then, taken_out, take_out}
-use Rattle.wf_model.proofs.Basics.{has-filter}
-use Rattle.wf_model.proofs.CanonicalSteps.{count_set_less}
-use Rattle.wf_model.proofs.LastSweep.{filter_less}
+use Rattle.wf_model.proofs.Lemmas.{has-filter, count_set_less, filter_less}
 use Rattle.wf_set.specs.Parts.{part_values}
 use Rattle.wf_set.specs.Sets.{box_of, values_in}
-use Rattle.wf_set.proofs.PartLaws.{values_small}
-use Rattle.wf_set.proofs.SetLaws.{values_of_part}
+use Rattle.wf_set.proofs.Lemmas.{values_small, values_of_part, set_at}
 use Rattle.wf_lines.specs.Lines.{line_of}
 use Rattle.wf_lines.specs.declared.line.Line.{Line}
 use Rattle.wf_lines.specs.declared.line.Line.TheVariants as line
 use Rattle.wf_network.specs.Revising.{wide_set}
 use Rattle.wf_box.specs.Steps.{reached, loss}
-use Rattle.wf_set.proofs.Lemmas.{set_at}
 
 -- the box without a candidate is that of the sets with one set changed
 pub set_without : (words : List (List ℕ)) (v a : ℕ) (set : List ℕ) → v < length words → values_in set ≡ filter (λ b. not (b == a)) (values_in (get_or words v [])) → box_of (slice_set words v set) ≡ without (box_of words) v a

@@ -5,7 +5,7 @@ use Rattle.std.specs.Cmp.Lexicographic.{pointwise}
 use Rattle.wf_model.specs.Task.{Task}
 use Rattle.wf_run.specs.Run.{answered}
 use Rattle.wf_run.specs.declared.fault.RunFault.{RunFault}
-use Rattle.wf_run.proofs.RunsInPieces.{IsRefusal}
+use Rattle.wf_run.proofs.Lemmas.{IsRefusal}
 use Rattle.wf_formula.specs.Branches.{branches}
 use Rattle.wf_branches.specs.Refuting.{accepted_in}
 use Rattle.wf_branches.specs.Verifying.{IsPartOf, JudgesPart}

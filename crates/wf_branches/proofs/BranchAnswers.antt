@@ -10,13 +10,7 @@ use Rattle.wf_model.specs.Refutation.{Line}
 use Rattle.wf_model.specs.Closing.{canonical}
 use Rattle.wf_model.specs.Laws.{IsBoxOf, IsClosedBranch, IsLeastIn}
 use Rattle.wf_model.specs.Report.{none}
-use Rattle.wf_model.proofs.MapsAreSolutions.{by_number, listed_solves, solution_decides}
-use Rattle.wf_model.proofs.Numbers.{listed_by_number}
-use Rattle.wf_model.proofs.CanonicalRefutations.{canonical_none_refutes}
-use Rattle.wf_model.proofs.OrderedCovers.{split_closed}
-use Rattle.wf_model.proofs.LinesToMaps.{canonical_leads}
-use Rattle.wf_model.proofs.LeastSolutions.{canonical_answers, canonical_least}
-use Rattle.wf_model.proofs.WellFormed.{task_well_formed}
+use Rattle.wf_model.proofs.Lemmas.{by_number, listed_solves, solution_decides, listed_by_number, canonical_none_refutes, split_closed, canonical_leads, canonical_answers, canonical_least, task_well_formed}
 use Rattle.wf_formula.specs.Branches.{branch_at, branches}
 use Rattle.wf_lines.specs.Lines.{line_of}
 use Rattle.wf_lines.specs.declared.line.Line as code
@@ -30,8 +24,8 @@ use Rattle.wf_engine.specs.Texts.{lines_kept, body_of_map}
 use Rattle.wf_run.specs.declared.fault.RunFault.{RunFault}
 use Rattle.wf_engine.specs.declared.outcome.Outcome.{Outcome}
 use Rattle.wf_engine.specs.declared.outcome.Outcome.TheVariants.{Map, Nothing}
-use Rattle.wf_run.proofs.GivenTask.{task_read}
-use Rattle.wf_engine.proofs.AnswersOfSearches.{kept_shown, none_shown}
+use Rattle.wf_run.proofs.Lemmas.{task_read}
+use Rattle.wf_engine.proofs.Lemmas.{kept_shown, none_shown}
 use Rattle.wf_branches.specs.Branches.{AnswersBranch, AsksBranch, HasBranch}
 use Rattle.wf_branches.specs.Laws.{BranchAnswersAreTrue}
 use Rattle.wf_branches.specs.Solving.{IsLeastInBranch, IsSolvedIn, LeadsToMapIn, part_text}

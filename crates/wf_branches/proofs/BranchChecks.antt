@@ -10,12 +10,7 @@ use Rattle.wf_model.specs.Box.{Box, LiesIn}
 use Rattle.wf_model.specs.Refutation.{Line}
 use Rattle.wf_model.specs.Report.{Body, a_map, least, none, report_about}
 use Rattle.wf_model.specs.Check.{first_fault, first_least_fault, header_fault, map_fault}
-use Rattle.wf_model.proofs.RefutingLines.{box_accepts}
-use Rattle.wf_model.proofs.MapsAreSolutions.{listed_solves}
-use Rattle.wf_model.proofs.LeastChecked.{leading_lines_accepted}
-use Rattle.wf_model.proofs.SolutionTests.{faultless}
-use Rattle.wf_model.proofs.WellFormed.{task_well_formed}
-use Rattle.wf_model.proofs.WholeReports.{both_pass, numbers_pass}
+use Rattle.wf_model.proofs.Lemmas.{box_accepts, listed_solves, leading_lines_accepted, faultless, task_well_formed, both_pass, numbers_pass}
 use Rattle.wf_formula.specs.Branches.{branch_at}
 use Rattle.wf_check.specs.Within.{fault_within, report_fault_within}
 use Rattle.wf_lines.specs.declared.form.Form.{Form}

@@ -4,22 +4,18 @@ use Rattle.wf_model.specs.Task.{Task, IsTask}
 use Rattle.wf_model.specs.Box.{root}
 use Rattle.wf_model.specs.DecisionMap.{listed}
 use Rattle.wf_model.specs.Problem.{problem_of}
-use Rattle.wf_model.proofs.MapsAreSolutions.{listed_solves}
-use Rattle.wf_model.proofs.OrderedCovers.{in_exactly_one, split_covers}
-use Rattle.wf_model.proofs.LeastSolutions.{solution_in_root}
-use Rattle.wf_model.proofs.WellFormed.{task_well_formed}
+use Rattle.wf_model.proofs.Lemmas.{listed_solves, in_exactly_one, split_covers, solution_in_root, task_well_formed}
 use Rattle.wf_clauses.specs.Formula.{Formula, IsUnsatisfiable}
 use Rattle.wf_set.specs.Sets.{values_in}
 use Rattle.wf_formula.specs.Branches.{branch_at, branch_question, branches, formula_in}
 use Rattle.wf_formula.specs.Encoding.{stating}
-use Rattle.wf_formula.proofs.Branches.{is_model_in}
+use Rattle.wf_formula.proofs.Lemmas.{is_model_in}
 use Rattle.wf_io.specs.Seen.{Reading}
 use Rattle.wf_io.specs.Texts.{Wrote}
 use Rattle.wf_run.specs.Sources.{NextReads, ReadsAbout}
 use Rattle.wf_run.specs.declared.fault.RunFault.{RunFault}
-use Rattle.wf_run.proofs.RunsOverTwoSources.{done}
+use Rattle.wf_run.proofs.Lemmas.{done, IsRefusal}
 use Rattle.wf_run.specs.Run.{answered}
-use Rattle.wf_run.proofs.RunsInPieces.{IsRefusal}
 use Rattle.wf_branches.specs.Branches.{HasBranch, IsBranch, IsNoBranch}
 use Rattle.wf_branches.specs.declared.branch.FoundBranch.{FoundBranch}
 use Rattle.wf_branches.specs.Refuting.{FindsBranch, HasNoMapIn, ReadsBranchProof, ReadsIn, ReadsProofIn, accepted_text}

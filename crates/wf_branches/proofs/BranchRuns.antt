@@ -7,7 +7,7 @@ use Rattle.wf_model.specs.Outline.{Item, boxes_left_out, outline}
 use Rattle.wf_model.specs.Split.{split}
 use Rattle.wf_model.specs.Points.{points}
 use Rattle.wf_model.specs.Problem.{Problem, problem_of}
-use Rattle.wf_model.proofs.WellFormed.{task_well_formed}
+use Rattle.wf_model.proofs.Lemmas.{task_well_formed}
 use Rattle.wf_set.specs.Sets.{box_of, values_in}
 use Rattle.wf_formula.specs.Branches.{box_text, branch_text, branches}
 use Rattle.wf_search.specs.Cover.{IsClosedIn}
@@ -17,7 +17,7 @@ use Rattle.wf_io.specs.declared.sink.WriteFault.{WriteFault}
 use Rattle.wf_run.specs.Run.{HasComplex, IsBeyondLimits, Ran}
 use Rattle.wf_run.specs.declared.fault.RunFault.{RunFault}
 use Rattle.wf_run.specs.declared.fault.RunFault.TheVariants.{NoBranch, OutOfMemory, Write}
-use Rattle.wf_run.proofs.RunsInPieces.{IsRefusal}
+use Rattle.wf_run.proofs.Lemmas.{IsRefusal}
 use Rattle.wf_branches.specs.Branches.{AnswersBranch, HasBranch, IsBranch, IsBranchTextOf, IsCoverOf, IsNoBranch, IsRefusedBranch}
 use Rattle.wf_branches.specs.declared.branch.FoundBranch.{FoundBranch}
 

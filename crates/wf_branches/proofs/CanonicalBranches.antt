@@ -9,11 +9,7 @@ use Rattle.wf_model.specs.Box.{LiesIn, root}
 use Rattle.wf_model.specs.Refutation.{Line}
 use Rattle.wf_model.specs.Closing.{canonical}
 use Rattle.wf_model.specs.Laws.{HasCanonicalLines, HasCanonicalMap, IsLeastIn}
-use Rattle.wf_model.proofs.MapsAreSolutions.{by_number, listed_solves, solution_decides}
-use Rattle.wf_model.proofs.OrderedCovers.{one_least}
-use Rattle.wf_model.proofs.LeastSolutions.{answer_least, answer_none, canonical_answers, canonical_least, root_is_box, solution_in_root}
-use Rattle.wf_model.proofs.Numbers.{listed_by_number}
-use Rattle.wf_model.proofs.WellFormed.{task_well_formed}
+use Rattle.wf_model.proofs.Lemmas.{by_number, listed_solves, solution_decides, one_least, answer_least, answer_none, canonical_answers, canonical_least, root_is_box, solution_in_root, listed_by_number, task_well_formed}
 use Rattle.wf_lines.specs.declared.form.Form.{Form}
 use Rattle.wf_engine.specs.Texts.{IsFound, body_of_map, body_of_none}
 use Rattle.wf_run.specs.Texts.{text_of_report}

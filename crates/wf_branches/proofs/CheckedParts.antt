@@ -11,15 +11,7 @@ use Rattle.wf_model.specs.DecisionMap.{listed}
 use Rattle.wf_model.specs.Refutation.{Line, Tree, Trees, no_trees, tree, lines, lines_each, Refutes, RefutesEach}
 use Rattle.wf_model.specs.Report.{Report, Body, a_map, none, least, report_about, report_text}
 use Rattle.wf_model.specs.Check.{first_least_fault, header_fault, map_fault}
-use Rattle.wf_model.proofs.MapsAreSolutions.{by_number, listed_solves, solution_decides}
-use Rattle.wf_model.proofs.Numbers.{listed_by_number}
-use Rattle.wf_model.proofs.FaultlessLines.{accepted}
-use Rattle.wf_model.proofs.LeastChecked.{accepted_leads}
-use Rattle.wf_model.proofs.LeastTrees.{tree_least}
-use Rattle.wf_model.proofs.TreesAreSound.{none_refutes}
-use Rattle.wf_model.proofs.SolutionTests.{faultless}
-use Rattle.wf_model.proofs.WellFormed.{task_well_formed}
-use Rattle.wf_model.proofs.WholeReports.{no_fault, right_numbers}
+use Rattle.wf_model.proofs.Lemmas.{by_number, listed_solves, solution_decides, listed_by_number, accepted, accepted_leads, tree_least, none_refutes, faultless, task_well_formed, no_fault, right_numbers}
 use Rattle.wf_formula.specs.Branches.{branch_at, branches}
 use Rattle.wf_io.specs.Seen.{Reading, Writing}
 use Rattle.wf_io.specs.Texts as io
@@ -35,9 +27,8 @@ use Rattle.wf_run.specs.Texts.{text_of_report}
 use Rattle.wf_verify_engine.specs.Verify.{accepted_words}
 use Rattle.wf_run.specs.declared.fault.RunFault.{RunFault}
 use Rattle.wf_run.specs.declared.fault.RunFault.TheVariants as run
-use Rattle.wf_run.proofs.RunsOverTwoSources.{IsReadCounted, done}
-use Rattle.wf_run.proofs.RunsOverTwoSources as both
-use Rattle.wf_run.proofs.Counts.{few}
+use Rattle.wf_run.proofs.Lemmas.{IsReadCounted, done, few}
+use Rattle.wf_run.proofs.Lemmas as both
 use Rattle.wf_branches.specs.Branches.{HasBranch}
 use Rattle.wf_branches.specs.Laws.{GaveTruePart, PartAcceptancesAreTrue}
 use Rattle.wf_branches.specs.Refuting.{FindsBranch, ReadsIn, accepted_in}
@@ -174,4 +165,4 @@ read_counted i t r old new (Err e) answer is (refused, same) =
 pub part_checked : (r i : ℕ) (task task' part part' : Reading) (sink sink' : Writing) (result : Result (Unit {0}) RunFault)
     → VerifiesBranch r i task task' part part' sink sink' result → IsChecked most_bytes task task' part part' sink sink' result
 part_checked r i =
-    both.counted most_bytes (ReadsIn ReadsPart i) r (λ t old new answer reads. read_counted i t r old new reads.0 answer reads.1 reads.2)
+    both.counted_over_two most_bytes (ReadsIn ReadsPart i) r (λ t old new answer reads. read_counted i t r old new reads.0 answer reads.1 reads.2)

@@ -10,10 +10,9 @@ use Rattle.wf_run.specs.Run.{Next, Ran, by_result, failed_reads, failed_writes}
 use Rattle.wf_run.specs.Laws.{IsChecked, IsCounted}
 use Rattle.wf_run.specs.Sources.{NextReads}
 use Rattle.wf_verify_engine.specs.Proofs.{most_proof_bytes}
-use Rattle.wf_run.proofs.RunsOverTwoSources.{IsReadCounted}
-use Rattle.wf_run.proofs.RunsOverTwoSources as both
-use Rattle.wf_run.proofs.Counts.{few, handed, judged}
-use Rattle.wf_verify_engine.proofs.ProofCounts.{proof_counted}
+use Rattle.wf_run.proofs.Lemmas.{IsReadCounted, few, handed, judged}
+use Rattle.wf_run.proofs.Lemmas as both
+use Rattle.wf_verify_engine.proofs.Lemmas.{proof_counted}
 use Rattle.wf_branches.specs.Branches.{AnswersBranch, AsksBranch, BranchAnswers, IsNoBranch, IsRefusedBranch}
 use Rattle.wf_branches.specs.Refuting.{FindsBranch, IsAcceptedBranch, ReadsBranchProof, ReadsProofIn, RefutesBranch}
 
@@ -67,4 +66,4 @@ read_counted i t r old new (Err e) answer is (refused, same) =
 pub branch_proved : (r i : ℕ) (task task' proof proof' : Reading) (sink sink' : Writing) (result : Result (Unit {0}) RunFault)
     → RefutesBranch r i task task' proof proof' sink sink' result → IsChecked most_proof_bytes task task' proof proof' sink sink' result
 branch_proved r i =
-    both.counted most_proof_bytes (ReadsProofIn i) r (λ t old new answer reads. read_counted i t r old new reads.0 answer reads.1 reads.2)
+    both.counted_over_two most_proof_bytes (ReadsProofIn i) r (λ t old new answer reads. read_counted i t r old new reads.0 answer reads.1 reads.2)

@@ -7,13 +7,7 @@ use Rattle.wf_model.specs.Limits.{most_number}
 use Rattle.wf_model.specs.Simplex.{values_of}
 use Rattle.wf_model.specs.Task.{HasValuesUpTo, IsTask, Task, largest_value, values}
 use Rattle.wf_model.specs.Problem.{problem_of}
-use Rattle.wf_model.proofs.Ascending.{Ascends, ascends_from}
-use Rattle.wf_model.proofs.MapsAreSolutions.{weaker}
-use Rattle.wf_model.proofs.ClosedBoxes.{each_with_value}
-use Rattle.wf_model.proofs.FilledOutlines.{few_branches}
-use Rattle.wf_model.proofs.Headline.{each_flat}
-use Rattle.wf_model.proofs.LastSweep.{each_has}
-use Rattle.wf_model.proofs.WellFormed.{task_well_formed}
+use Rattle.wf_model.proofs.Lemmas.{Ascends, ascends_from, weaker, each_with_value, few_branches, each_flat, each_has, task_well_formed}
 use Rattle.wf_task.proofs.Lemmas.{has_from_order}
 use Rattle.wf_formula.specs.Branches.{branches}
 

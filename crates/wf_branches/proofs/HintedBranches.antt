@@ -9,10 +9,10 @@ use Rattle.wf_run.specs.Laws.{IsChecked}
 use Rattle.wf_run.specs.Run.{by_result, failed_reads, failed_writes}
 use Rattle.wf_run.specs.Sources.{NextReads}
 use Rattle.wf_run.specs.declared.fault.RunFault.{RunFault}
-use Rattle.wf_run.proofs.RunsOverTwoSources.{IsReadCounted, done}
-use Rattle.wf_run.proofs.RunsOverTwoSources as both
+use Rattle.wf_run.proofs.Lemmas.{IsReadCounted, done}
+use Rattle.wf_run.proofs.Lemmas as both
 use Rattle.wf_verify_engine.specs.Proofs.{most_proof_bytes}
-use Rattle.wf_verify_engine.proofs.HintCounts.{hints_counted}
+use Rattle.wf_verify_engine.proofs.Lemmas.{hints_counted}
 use Rattle.wf_branches.specs.Branches.{HasBranch}
 use Rattle.wf_branches.specs.Hints.{HintedBranchRefutationsAreTrue, ReadsBranchHints, ReadsHintsIn, RefutesBranchByHints}
 use Rattle.wf_branches.specs.Refuting.{FindsBranch, HasNoMapIn, IsAcceptedBranch, accepted_text}
@@ -44,4 +44,4 @@ read_counted i t r old new (Err e) answer is (refused, same) =
 pub branch_proved_by_hints : (r i : ℕ) (task task' proof proof' : Reading) (sink sink' : Writing) (result : Result (Unit {0}) RunFault)
     → RefutesBranchByHints r i task task' proof proof' sink sink' result → IsChecked most_proof_bytes task task' proof proof' sink sink' result
 branch_proved_by_hints r i =
-    both.counted most_proof_bytes (ReadsHintsIn i) r (λ t old new answer reads. read_counted i t r old new reads.0 answer reads.1 reads.2)
+    both.counted_over_two most_proof_bytes (ReadsHintsIn i) r (λ t old new answer reads. read_counted i t r old new reads.0 answer reads.1 reads.2)

@@ -15,7 +15,7 @@ use Rattle.wf_run.specs.declared.fault.RunFault.{RunFault}
 use Rattle.wf_run.specs.declared.fault.RunFault.TheVariants as run
 use Rattle.wf_engine.specs.declared.outcome.Outcome.{Outcome}
 use Rattle.wf_engine.specs.declared.outcome.Outcome.TheVariants as outcome
-use Rattle.wf_verify_engine.proofs.WrittenIsAccepted.{unrefused}
+use Rattle.wf_verify_engine.proofs.Lemmas.{unrefused}
 use Rattle.wf_branches.specs.Solving.{part_text}
 use Rattle.wf_branches.specs.Joining.{AcceptsJoined, Gathered, joined_body}
 use Rattle.wf_branches.specs.Laws.{PartsOfSearchesAreJoined}

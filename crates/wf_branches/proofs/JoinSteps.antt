@@ -24,7 +24,7 @@ use Rattle.wf_run.specs.Run.{Next, answered}
 use Rattle.wf_run.specs.Texts.{text_of_report}
 use Rattle.wf_run.specs.declared.fault.RunFault.{RunFault}
 use Rattle.wf_run.specs.declared.fault.RunFault.TheVariants.{OutOfMemory, TooManyParts}
-use Rattle.wf_run.proofs.RunsInPieces.{IsRefusal}
+use Rattle.wf_run.proofs.Lemmas.{IsRefusal}
 use Rattle.wf_branches.specs.Branches.{IsBranch}
 use Rattle.wf_branches.specs.declared.branch.FoundBranch.{FoundBranch}
 use Rattle.wf_branches.specs.declared.joining.Gathered as kept

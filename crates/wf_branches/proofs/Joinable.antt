@@ -14,8 +14,7 @@ use Rattle.wf_model.specs.Outline.{Item, filled, filled_up_to, outline}
 use Rattle.wf_model.specs.Refutation.{Line}
 use Rattle.wf_model.specs.Report.{Body, least, none, report_about}
 use Rattle.wf_model.specs.Check.{report_fault}
-use Rattle.wf_model.proofs.WholeReports.{canonical_least_accepted, canonical_none_accepted, map_accepted}
-use Rattle.wf_model.proofs.OutlinesAsSearches.{filled_canonical, filled_leads}
+use Rattle.wf_model.proofs.Lemmas.{canonical_least_accepted, canonical_none_accepted, map_accepted, filled_canonical, filled_leads}
 use Rattle.wf_formula.specs.Branches.{branches}
 use Rattle.wf_pool.specs.Answers.{HasAccountOfMap, map_lines, refuting_lines}
 use Rattle.wf_lines.specs.declared.form.Form.{Form}
@@ -27,7 +26,7 @@ use Rattle.wf_run.specs.declared.fault.RunFault.{RunFault}
 use Rattle.wf_run.specs.declared.fault.RunFault.TheVariants.{OutOfMemory, TooManyParts}
 use Rattle.wf_engine.specs.declared.outcome.Outcome.{Outcome}
 use Rattle.wf_engine.specs.declared.outcome.Outcome.TheVariants as outcome
-use Rattle.wf_engine.proofs.AnswersOfSearches.{kept_shown, map_account, map_verdict, none_shown, none_verdict}
+use Rattle.wf_engine.proofs.Lemmas.{kept_shown, map_account, map_verdict, none_shown, none_verdict}
 use Rattle.wf_branches.specs.Branches.{HasBranch}
 use Rattle.wf_branches.specs.Solving.{IsLeastInBranch, IsRefutationIn, LeadsToMapIn, part_text}
 use Rattle.wf_branches.specs.Joining.{EndsAll, Gathered, Gathers, GathersAll, GoesOn, joined_body, with_least, with_map, without_map}

@@ -13,7 +13,7 @@ use Rattle.wf_run.specs.Run.{Judged, Next}
 use Rattle.wf_run.specs.Texts.{text_of_report}
 use Rattle.wf_run.specs.declared.fault.RunFault.{RunFault}
 use Rattle.wf_engine.specs.declared.outcome.Outcome.{Outcome}
-use Rattle.wf_run.proofs.RunsOverTwoSources.{done}
+use Rattle.wf_run.proofs.Lemmas.{done}
 use Rattle.wf_branches.specs.Joining.{AcceptsJoined, Gathered, GathersAll, JoinsText, ReadsParts, joined_body, most_parts_bytes}
 use Rattle.wf_branches.specs.Laws.{JoinsOfSearchesAreWhole, PartsOfSearchesJoinToTheWhole}
 use Rattle.wf_branches.specs.Searched.{AreTooMuch, HasPartsOf, IsWholeText}

@@ -9,13 +9,7 @@ use Rattle.wf_model.specs.Refutation.{Line}
 use Rattle.wf_model.specs.Report.{Report, Body, a_map, none, least, report_about}
 use Rattle.wf_model.specs.Check.{body_fault, first_least_fault, header_fault, map_fault}
 use Rattle.wf_model.specs.LeastTree.{IsLeastTree}
-use Rattle.wf_model.proofs.MapsAreSolutions.{weaker}
-use Rattle.wf_model.proofs.FaultlessLines.{root_accepted}
-use Rattle.wf_model.proofs.Headline.{each_append}
-use Rattle.wf_model.proofs.LeastChecked.{accepted_leads}
-use Rattle.wf_model.proofs.LeastSolutions.{root_is_box}
-use Rattle.wf_model.proofs.WellFormed.{task_well_formed}
-use Rattle.wf_model.proofs.WholeReports.{no_fault}
+use Rattle.wf_model.proofs.Lemmas.{weaker, root_accepted, each_append, accepted_leads, root_is_box, task_well_formed, no_fault}
 use Rattle.wf_formula.specs.Branches.{branches}
 use Rattle.wf_io.specs.Seen.{Reading}
 use Rattle.wf_io.specs.Texts as io
@@ -29,11 +23,9 @@ use Rattle.wf_run.specs.Texts.{text_of_report}
 use Rattle.wf_verify_engine.specs.Verify.{IsFaultless}
 use Rattle.wf_run.specs.declared.fault.RunFault.{RunFault}
 use Rattle.wf_run.specs.declared.fault.RunFault.TheVariants as run
-use Rattle.wf_verify_engine.proofs.WrittenIsAccepted.{body_accepted}
-use Rattle.wf_run.proofs.RunsOverTwoSources.{IsReadCounted, done}
-use Rattle.wf_run.proofs.RunsOverTwoSources as both
-use Rattle.wf_run.proofs.Counts.{few}
-use Rattle.wf_verify_engine.proofs.WrittenReports.{HasSmallValue, line_small, map_within, root_small, small_least_within, small_none_within, step_small}
+use Rattle.wf_verify_engine.proofs.Lemmas.{body_accepted, HasSmallValue, line_small, map_within, root_small, small_least_within, small_none_within, step_small}
+use Rattle.wf_run.proofs.Lemmas.{IsReadCounted, done, few}
+use Rattle.wf_run.proofs.Lemmas as both
 use Rattle.wf_branches.specs.Joining.{AcceptsBody, AcceptsJoined, EndsAll, Gathered, with_map, with_least, without_map, Gathers, GathersAll, GoesOn, IsBodyIn, JoinsText, ReadsParts, TakesPart, among_parts, in_part, joined_body, most_parts_bytes, next_part}
 use Rattle.wf_branches.specs.Laws.{JoinsAreAccepted, JoinsAreTrue, JoiningIsCounted}
 use Rattle.wf_branches.specs.Verifying.{IsPartOf}
@@ -233,4 +225,4 @@ parts_counted t r old new answer (text, (given, gave, read), judged) =
     record { taken = omega (arith, gave.taken, bound); failures = omega (arith, fails, reads); writes = counts.1 }
 
 pub joining_counted : JoiningIsCounted
-joining_counted r = both.counted most_parts_bytes ReadsParts r (λ t old new answer reads. parts_counted t r old new answer reads)
+joining_counted r = both.counted_over_two most_parts_bytes ReadsParts r (λ t old new answer reads. parts_counted t r old new answer reads)

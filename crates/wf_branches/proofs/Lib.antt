@@ -1,3 +1,4 @@
+pub mod Lemmas
 pub mod Lines
 pub mod Counts
 pub mod BranchProofs

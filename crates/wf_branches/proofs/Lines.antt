@@ -3,7 +3,7 @@ use Rattle.std.specs.Prelude.{cond}
 use Rattle.std.proofs.Common.{◌≡◌, ◌<◌, ◌≤◌, ◌+◌, ◌*◌, ℕ, zero, suc, nat_lt, Bool, true, false, List, [], ◌∷◌, ◌++◌, take, length, codes, sym, ap, ◌∙◌, arith}
 use Rattle.std.specs.List.{enumerate_from, slice_index_or}
 use Rattle.std.proofs.lemmas.List.Filters.{length-filter_more}
-use Rattle.wf_model.proofs.CanonicalSteps.{length_filter}
+use Rattle.wf_model.proofs.Lemmas.{length_filter}
 use Rattle.wf_model.specs.Lists.{below}
 use Rattle.wf_model.specs.Box.{Box, candidates, count}
 use Rattle.wf_set.specs.Sets.{holds, values_in}

@@ -11,17 +11,11 @@ use Rattle.wf_model.specs.Closing.{Trace}
 use Rattle.wf_model.specs.Outline.{Item, boxes_left_out, filled, filled_up_to, left_out, outline, written}
 use Rattle.wf_model.specs.Report.{Body, a_map, none, least, report_about}
 use Rattle.wf_model.specs.Laws.{HasCanonicalLines, HasCanonicalMap}
-use Rattle.wf_model.proofs.MapsAreSolutions.{weaker}
-use Rattle.wf_model.proofs.CanonicalRefutations.{canonical_none_refutes}
-use Rattle.wf_model.proofs.FilledOutlines.{boxes_outline}
-use Rattle.wf_model.proofs.Headline.{both, each_append}
-use Rattle.wf_model.proofs.LinesToMaps.{canonical_leads}
-use Rattle.wf_model.proofs.LeastSolutions.{root_is_box}
-use Rattle.wf_model.proofs.WellFormed.{task_well_formed}
+use Rattle.wf_model.proofs.Lemmas.{weaker, canonical_none_refutes, boxes_outline, both, each_append, canonical_leads, root_is_box, task_well_formed}
 use Rattle.wf_formula.specs.Branches.{branch_at, branches}
 use Rattle.wf_report.specs.Grammar.{IsBodyWithin, IsInGrammar, IsLineWithin, IsStepWithin}
 use Rattle.wf_run.specs.Run.{HasComplex}
-use Rattle.wf_verify_engine.proofs.WrittenReports.{least_within, none_within}
+use Rattle.wf_verify_engine.proofs.Lemmas.{least_within, none_within}
 use Rattle.wf_branches.proofs.ReportEnds.{step_of_line}
 use Rattle.wf_branches.proofs.PartLists.{AreRefutationsFrom}
 

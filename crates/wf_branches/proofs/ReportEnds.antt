@@ -6,10 +6,10 @@ use Rattle.std.specs.List.{AllByRecursion}
 use Rattle.wf_model.specs.Limits.{most_number}
 use Rattle.wf_model.specs.Refutation.{Line, remove, empty, branch, found}
 use Rattle.wf_model.specs.Report.{Report, Body, a_map, none, least, answer_line, body_text, largest, line, line_text, lines_of, onto_first, report_text, same_text, value_line}
-use Rattle.wf_model.proofs.MapsAreSolutions.{weaker}
+use Rattle.wf_model.proofs.Lemmas.{weaker}
 use Rattle.wf_report.specs.Grammar.{IsBodyWithin, IsInGrammar, IsLineWithin, IsStepWithin}
 use Rattle.wf_report.specs.Reading.{lacks}
-use Rattle.wf_report.proofs.WrittenLemmas.{IsLine, is_line}
+use Rattle.wf_report.proofs.Lemmas.{IsLine, is_line}
 use Rattle.wf_branches.specs.Joining.{ends_here, next_part, part_length}
 use Rattle.wf_branches.specs.Solving.{part_head}
 

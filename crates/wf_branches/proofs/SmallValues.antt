@@ -9,10 +9,8 @@ use Rattle.wf_model.specs.Refutation.{Line}
 use Rattle.wf_model.specs.Closing.{Step, closing}
 use Rattle.wf_model.specs.Split.{is_open}
 use Rattle.wf_model.specs.Outline.{Item, box_left, boxes_left_out, closed_each, closed_to, filled, filled_up_to, left_out, opened, opened_at, opened_if, opened_levels, outline, written}
-use Rattle.wf_model.proofs.MapsAreSolutions.{weaker}
-use Rattle.wf_model.proofs.CanonicalSteps.{Leaves}
-use Rattle.wf_model.proofs.Headline.{each_append, each_flat, each_map}
-use Rattle.wf_verify_engine.proofs.WrittenReports.{AreSmall, HasSmallValue, KeepsSmall, branches_small, closing_small}
+use Rattle.wf_model.proofs.Lemmas.{weaker, Leaves, each_append, each_flat, each_map}
+use Rattle.wf_verify_engine.proofs.Lemmas.{AreSmall, HasSmallValue, KeepsSmall, branches_small, closing_small}
 
 -- a line with a small value, or a box with small candidates
 abbrev IsSmallItem : Item → Type 0

@@ -9,8 +9,7 @@ use Rattle.wf_model.specs.Refutation.{Line}
 use Rattle.wf_model.specs.Closing.{canonical}
 use Rattle.wf_model.specs.Report.{none, least, report_about}
 use Rattle.wf_model.specs.Check.{report_fault}
-use Rattle.wf_model.proofs.LeastSolutions.{answer_least}
-use Rattle.wf_model.proofs.WholeReports.{canonical_none_accepted, least_tree_accepted}
+use Rattle.wf_model.proofs.Lemmas.{answer_least, canonical_none_accepted, least_tree_accepted}
 use Rattle.wf_model.specs.Limits.{most_bytes}
 use Rattle.wf_engine.specs.declared.outcome.Outcome.{Outcome}
 use Rattle.wf_engine.specs.declared.outcome.Outcome.TheVariants as outcome
@@ -25,8 +24,7 @@ use Rattle.wf_run.specs.Texts.{text_of_report}
 use Rattle.wf_verify_engine.specs.Verify.{ChecksText}
 use Rattle.wf_verify_engine.specs.Laws.{Accepts}
 use Rattle.wf_branches.specs.SolvedReports.{accepted_as}
-use Rattle.wf_verify_engine.proofs.WrittenReports.{none_within, least_within}
-use Rattle.wf_verify_engine.proofs.WrittenIsAccepted.{body_accepted, map_text_accepted}
+use Rattle.wf_verify_engine.proofs.Lemmas.{none_within, least_within, body_accepted, map_text_accepted}
 
 -- where there is no map, the canonical search finds none
 finds_none : (t : Task) (r : ℕ) → IsTask t → HasNoDecisionMap t r → (canonical (problem_of t r) (root (problem_of t r))).map ≡ None

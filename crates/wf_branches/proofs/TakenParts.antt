@@ -14,7 +14,7 @@ use Rattle.wf_run.specs.Texts.{text_of_report}
 use Rattle.wf_run.specs.declared.fault.PartFault.TheVariants as part
 use Rattle.wf_run.specs.declared.fault.RunFault.{RunFault}
 use Rattle.wf_run.specs.declared.fault.RunFault.TheVariants as run
-use Rattle.wf_verify_engine.proofs.WrittenIsAccepted.{unrefused}
+use Rattle.wf_verify_engine.proofs.Lemmas.{unrefused}
 use Rattle.wf_branches.specs.Solving.{part_head, part_text}
 use Rattle.wf_branches.specs.Verifying.{ChecksIn, IsPartOf}
 use Rattle.wf_branches.specs.Joining.{AcceptsBody, IsBodyIn, TakesPart, among_parts, in_part}

@@ -9,7 +9,7 @@ use Rattle.wf_model.specs.Box.{has_at}
 use Rattle.wf_set.specs.Parts.{part_values}
 use Rattle.wf_set.proofs.Lemmas.{values_of_nothing}
 use Rattle.wf_check.specs.RowBlocks.{IsBlock}
-use Rattle.wf_model.proofs.Basics.{or_none}
+use Rattle.wf_model.proofs.Lemmas.{or_none}
 
 -- ---- the first values of a row
 

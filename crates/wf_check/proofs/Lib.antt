@@ -1,3 +1,4 @@
+pub mod Lemmas
 pub mod BlockLemmas
 pub mod PlaceLemmas
 pub mod ExecutionLemmas

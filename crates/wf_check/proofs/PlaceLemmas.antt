@@ -8,7 +8,7 @@ use Rattle.wf_model.specs.Task.{Rule, Tuple}
 use Rattle.wf_model.specs.Box.{Box, candidates, is_supported, without}
 use Rattle.wf_model.specs.Check.{place_of, removal_at, fault, left, no_such, unsound}
 use Rattle.wf_simplex.specs.Entries.{place_in}
-use Rattle.wf_simplex.proofs.Places.{place_none, place_some}
+use Rattle.wf_simplex.proofs.Lemmas.{place_none, place_some}
 use Rattle.wf_check.specs.Places.{constraint_on, tuples_of, unless_supported}
 
 -- ---- a process and its point

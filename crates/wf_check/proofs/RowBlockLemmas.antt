@@ -16,8 +16,7 @@ use Rattle.wf_set.specs.Parts.{part_holds, part_values}
 use Rattle.wf_set.specs.Sets.{values_in}
 use Rattle.wf_set.proofs.Lemmas.{has-part_values, has_large, part_holds-or}
 use Rattle.wf_check.specs.RowBlocks.{IsBlock, IsPlain, is_one_of}
-use Rattle.wf_model.proofs.Tuples.{has_at_place}
-use Rattle.wf_model.proofs.Basics.{equal_turned, and_turned}
+use Rattle.wf_model.proofs.Lemmas.{has_at_place, equal_turned, and_turned}
 
 -- ---- words as sets of rows
 

@@ -5,7 +5,7 @@ use Rattle.wf_model.specs.Points.{points}
 use Rattle.wf_model.specs.Problem.{number_of, problem_of}
 use Rattle.wf_model.specs.Report.{Report, Body, a_map, none, least}
 use Rattle.wf_model.specs.Check.{body_fault, header_fault, report_fault, unless_fault}
-use Rattle.wf_model.proofs.WholeReports.{map_decides, map_listed, lines_refute, lines_lead, least_listed}
+use Rattle.wf_model.proofs.Lemmas.{map_decides, map_listed, lines_refute, lines_lead, least_listed}
 use Rattle.wf_check.specs.Faults.{Judges}
 use Rattle.wf_check.specs.Truth.{HoldsOf}
 use Rattle.wf_report.specs.declared.fault.CertFault.{CertFault}

@@ -9,7 +9,7 @@ use Rattle.wf_words.specs.Asked.{Answers, IsJob, IsRefusal, IsTaken, Path, is_ne
 use Rattle.wf_words.specs.Given.{task_of}
 use Rattle.wf_words.specs.declared.mistake.Piece.TheVariants as piece
 use Rattle.wf_words.specs.declared.fault.WordsFault.{WordsFault}
-use Rattle.wf_words.proofs.ParsedWords as words
+use Rattle.wf_words.proofs.Lemmas as words
 use Rattle.wf_checker_args.specs.Asked.{check_asked, check_in, check_on, job_asked}
 use Rattle.wf_checker_args.specs.CommandLine.{command_line}
 use Rattle.wf_checker_args.specs.declared.job.Check.{Check}

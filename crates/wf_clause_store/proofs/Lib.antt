@@ -1,3 +1,4 @@
+pub mod Lemmas
 pub mod TrailLemmas
 pub mod ClauseLemmas
 pub mod IndexLemmas

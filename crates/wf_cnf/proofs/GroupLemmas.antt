@@ -11,7 +11,7 @@ use Rattle.wf_model.specs.Box.{has_at}
 use Rattle.wf_set.specs.Sets.{value_limit}
 use Rattle.wf_cnf.specs.Found.{having, occurs, occurs_in_each}
 use Rattle.wf_cnf.specs.Groups.{AreGroups, AreFollowers, AreAllowed, group_of}
-use Rattle.wf_model.proofs.Tuples.{has_at_past}
+use Rattle.wf_model.proofs.Lemmas.{has_at_past}
 use Rattle.wf_cnf.proofs.TupleLemmas.{or_nothing, and_true, and_assoc}
 
 has_at_value : (t : Tuple) (p a : ℕ) → p < length t → has_at t p a ≡ (slice_index t p == a)

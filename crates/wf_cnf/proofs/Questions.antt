@@ -16,8 +16,7 @@ use Rattle.wf_model.specs.Points.{points}
 use Rattle.wf_model.specs.Report.{line}
 use Rattle.wf_model.specs.Box.{Box}
 use Rattle.wf_model.specs.Problem.{Constraint, Participant, problem_of, constraint_of, no_constraint}
-use Rattle.wf_model.proofs.Basics.{by_place, length-below}
-use Rattle.wf_model.proofs.MapsAreSolutions.{weaker}
+use Rattle.wf_model.proofs.Lemmas.{by_place, length-below, weaker}
 use Rattle.wf_complex.specs.Protocol.{Built, IsProtocol}
 use Rattle.wf_complex.proofs.Lemmas.{constraint_there, got, known_points, rule_there, as_many_constraints}
 use Rattle.wf_set.specs.Sets.{values_in}
@@ -26,8 +25,7 @@ use Rattle.wf_formula.specs.Branches.{branch_line, exclusions}
 use Rattle.wf_formula.specs.Patterns.{Entry, Pattern, is_forbidden, minimal_patterns}
 use Rattle.wf_formula.specs.Encoding.{denied, clauses_of, at_least_one, question}
 use Rattle.wf_formula.specs.Dimacs.{clause_text, comments, comments_with, formula_text, numbering_line}
-use Rattle.wf_formula.proofs.Members.{each_below}
-use Rattle.wf_formula.proofs.MinimalPatterns.{IsEntry, each_minimal}
+use Rattle.wf_formula.proofs.Lemmas.{each_below, IsEntry, each_minimal}
 use Rattle.wf_cnf.specs.Clauses.{denied_at, points_in, patterns_in, clauses_at, clauses_on, executions_text, patterns_of, points_text, HasPoints, AreCovered}
 use Rattle.wf_cnf.specs.Exclusions.{exclusions_at, exclusions_on, exclusions_text, Fits, line_in, part_text, sets_in}
 use Rattle.wf_cnf.specs.Head.{head_text}

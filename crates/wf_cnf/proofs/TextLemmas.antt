@@ -7,15 +7,14 @@ use Rattle.std.proofs.lemmas.List.{append-nil, map-append, get_or-map, length-ma
 use Rattle.std.proofs.lemmas.List.Concat.{flat_map-append}
 use Rattle.std.proofs.lemmas.Slice.Zip.{length-zip, get_or-zip}
 use Rattle.wf_model.specs.Lists.{below, has}
-use Rattle.wf_model.proofs.Ascending.{Ascends}
-use Rattle.wf_model.proofs.Basics.{below_next, length-below}
+use Rattle.wf_model.proofs.Lemmas.{Ascends, below_next, length-below}
 use Rattle.wf_complex.proofs.Lemmas.{got}
 use Rattle.wf_set.specs.Sets.{values_in, holds}
 use Rattle.wf_set.proofs.Lemmas.{values_ascend}
 use Rattle.wf_clauses.specs.Formula.{Clause}
 use Rattle.wf_formula.specs.Patterns.{Pattern}
 use Rattle.wf_formula.specs.Encoding.{rank_in}
-use Rattle.wf_formula.proofs.Variables.{rank_most}
+use Rattle.wf_formula.proofs.Lemmas.{rank_most}
 use Rattle.wf_cnf.specs.Clauses.{HasPoints}
 
 -- ---- numbers

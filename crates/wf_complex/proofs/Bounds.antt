@@ -5,7 +5,7 @@ use Rattle.std.proofs.Math.Nat.{mul-le-mul_right, mul-le-mul_left}
 use Rattle.wf_model.specs.Simplex.{Simplex}
 use Rattle.wf_model.specs.View.{View, base_views, round}
 use Rattle.wf_model.specs.Word.{Word, words}
-use Rattle.wf_model.proofs.WellFormed.{words_long}
+use Rattle.wf_model.proofs.Lemmas.{words_long}
 use Rattle.wf_complex.specs.Rounds.{leaves, leaves_of, cost, cost_of_each}
 use Rattle.wf_complex.specs.Layout.{turns, execution_total, place_total}
 use Rattle.wf_complex.proofs.RoundLemmas.{length-round}

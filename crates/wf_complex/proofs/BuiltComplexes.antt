@@ -26,7 +26,7 @@ use Rattle.wf_complex.proofs.FirstPlaces.{picked_twice}
 use Rattle.wf_complex.proofs.ExecutionsInOrder.{all_lie, all_on}
 use Rattle.wf_complex.proofs.PackedLemmas.{IsSpanWithin, spans_within}
 use Rattle.wf_complex.proofs.BuiltLemmas.{view_count_is, points_are, firsts_are, scopes_are}
-use Rattle.wf_model.proofs.MapsAreSolutions.{weaker}
+use Rattle.wf_model.proofs.Lemmas.{weaker}
 
 -- ---- sizes
 

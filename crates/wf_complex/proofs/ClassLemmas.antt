@@ -8,8 +8,7 @@ use Rattle.wf_complex.specs.Views.{view_at, count_within}
 use Rattle.wf_complex.specs.Rounds.{views_at, Extends}
 use Rattle.wf_complex.specs.Classes.{class_by, most_within}
 use Rattle.wf_complex.proofs.RoundLemmas.{views_kept, within_kept, views_push}
-use Rattle.wf_model.proofs.Numbers.{map_same}
-use Rattle.wf_model.proofs.MapsAreSolutions.{weaker}
+use Rattle.wf_model.proofs.Lemmas.{map_same, weaker}
 use Rattle.std.proofs.lemmas.Simd.{map-map}
 
 -- ---- tasks that are not symmetric

@@ -9,10 +9,7 @@ use Rattle.std.proofs.lemmas.List.Elements.{recursion_from_All, All-from_recursi
 use Rattle.std.proofs.lemmas.Map.Views.{All-insert_key}
 use Rattle.wf_model.specs.Lists.{has}
 use Rattle.wf_model.specs.View.{View, same_view}
-use Rattle.wf_model.proofs.MapsAreSolutions.{Among, same_itself, among_append_left, among_append_right, weaker}
-use Rattle.wf_model.proofs.Headline.{each_map, each_of_map, both}
-use Rattle.wf_model.proofs.Ascending.{Ascends, is_ascending_from}
-use Rattle.wf_model.proofs.Numbers.{Apart}
+use Rattle.wf_model.proofs.Lemmas.{Among, same_itself, among_append_left, among_append_right, weaker, each_map, each_of_map, both, Ascends, is_ascending_from, Apart}
 use Rattle.wf_complex.specs.Views.{view_at, inner_views, views_within}
 use Rattle.wf_complex.specs.Renaming.{SawAmong, SawEarlier, AreInside}
 use Rattle.wf_complex.proofs.ViewsWithin.{among_either, within_itself, within_within, at_most_within, differ}

@@ -18,9 +18,7 @@ use Rattle.wf_complex.proofs.Bounds.{suc_times}
 use Rattle.wf_complex.proofs.RoundLemmas.{length-round}
 use Rattle.wf_complex.proofs.InputLemmas.{length-base_views}
 use Rattle.wf_complex.proofs.Executions.{length-lists_of}
-use Rattle.wf_model.proofs.MapsAreSolutions.{weaker}
-use Rattle.wf_model.proofs.Headline.{each_map}
-use Rattle.wf_model.proofs.WellFormed.{words_long, each_of_lists}
+use Rattle.wf_model.proofs.Lemmas.{weaker, each_map, words_long, each_of_lists}
 
 -- ---- cutting
 

@@ -7,10 +7,7 @@ use Rattle.wf_model.specs.Lists.{distinct}
 use Rattle.wf_model.specs.Simplex.{Simplex}
 use Rattle.wf_model.specs.Word.{Word, words}
 use Rattle.wf_model.specs.View.{View, seen, views_of, process_of, same_view, base_views, visible, round}
-use Rattle.wf_model.proofs.MapsAreSolutions.{Among, among_append_left, among_append_right, each_among_itself, weaker}
-use Rattle.wf_model.proofs.Headline.{each_append, each_distinct}
-use Rattle.wf_model.proofs.Numbers.{apart_distinct}
-use Rattle.wf_model.proofs.WellFormed.{words_long}
+use Rattle.wf_model.proofs.Lemmas.{Among, among_append_left, among_append_right, each_among_itself, weaker, each_append, each_distinct, apart_distinct, words_long}
 use Rattle.wf_complex.specs.Views.{view_at, views_within, views_within_each, count_within}
 use Rattle.wf_complex.proofs.ViewsWithin.{no_more}
 use Rattle.wf_complex.specs.Rounds.{views_at, leaves, leaves_of}

@@ -9,17 +9,12 @@ use Rattle.std.proofs.lemmas.List.FromFn.{length-range_with_len}
 use Rattle.wf_model.specs.Lists.{distinct, below}
 use Rattle.wf_model.specs.View.{View, same_view}
 use Rattle.wf_model.specs.Problem.{number_of}
-use Rattle.wf_model.proofs.Basics.{by_place}
-use Rattle.wf_model.proofs.MapsAreSolutions.{same_itself, same_is, weaker}
+use Rattle.wf_model.proofs.Lemmas.{by_place, same_itself, same_is, weaker, Ascends, ascends_filter, each_distinct, each_filter, each_map, Apart, apart_distinct, map_distinct, length_filter}
 use Rattle.std.proofs.lemmas.List.Kept.{AllPairs-cons}
-use Rattle.wf_model.proofs.Ascending.{Ascends, ascends_filter}
-use Rattle.wf_model.proofs.Headline.{each_distinct, each_filter, each_map}
-use Rattle.wf_model.proofs.Numbers.{Apart, apart_distinct, map_distinct}
 use Rattle.wf_complex.specs.Views.{view_at}
 use Rattle.wf_complex.proofs.Ranked.{number_of-at}
 use Rattle.wf_complex.specs.Rounds.{views_at}
 use Rattle.wf_complex.specs.Numbering.{same_at, first_places}
-use Rattle.wf_model.proofs.CanonicalSteps.{length_filter}
 use Rattle.std.proofs.lemmas.Simd.{map-map}
 
 pub all_in_range : (a n m : ℕ) → a + n ≤ m → AllByRecursion (λ j. j < m) (range_with_len a n)

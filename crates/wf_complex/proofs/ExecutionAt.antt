@@ -12,8 +12,7 @@ use Rattle.wf_model.specs.Task as task
 use Rattle.wf_model.specs.Task.{Task, Tuple, IsTask, IsSimplexWithin, inputs, largest_value}
 use Rattle.wf_model.specs.Problem.{Constraint, problem_of, values_at, constraint_at, no_constraint}
 use Rattle.wf_model.specs.Check.{satisfies}
-use Rattle.wf_model.proofs.WellFormed.{task_well_formed}
-use Rattle.wf_model.proofs.Tasks.{inputs_within}
+use Rattle.wf_model.proofs.Lemmas.{task_well_formed, inputs_within}
 use Rattle.wf_simplex.proofs.Lemmas.{length-within}
 use Rattle.wf_complex.specs.Protocol.{Built, IsProtocol}
 use Rattle.wf_complex.proofs.RuleAt.{constraint_there, got}

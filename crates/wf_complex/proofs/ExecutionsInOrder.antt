@@ -5,7 +5,7 @@ use Rattle.std.proofs.Math.Seq.{get_or-append_seam}
 use Rattle.std.proofs.lemmas.List.Elements.{All-from_recursion, recursion_from_All}
 use Rattle.std.proofs.lemmas.Option.{get_or_from_slice_get, slice_get_within}
 use Rattle.wf_model.specs.Simplex.{Simplex}
-use Rattle.wf_model.proofs.Headline.{each_append}
+use Rattle.wf_model.proofs.Lemmas.{each_append}
 use Rattle.wf_complex.specs.declared.layout.ExecutionSlot.{ExecutionSlot}
 use Rattle.wf_complex.specs.Layout.{turns, place_total, laid_on, laid_out}
 use Rattle.wf_complex.specs.Places.{EndsBy, LieFrom, BelongsTo, IsOn}

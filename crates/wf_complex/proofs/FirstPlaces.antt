@@ -9,9 +9,7 @@ use Rattle.std.proofs.lemmas.List.Folds.{list_any-append}
 use Rattle.std.proofs.Math.Seq.{get_or-append_seam, take-suc}
 use Rattle.std.proofs.lemmas.List.{get_or_append_left}
 use Rattle.wf_model.specs.Lists.{distinct, below}
-use Rattle.wf_model.proofs.Basics.{below_next}
-use Rattle.wf_model.proofs.MapsAreSolutions.{weaker}
-use Rattle.wf_model.proofs.Numbers.{map_same}
+use Rattle.wf_model.proofs.Lemmas.{below_next, weaker, map_same}
 use Rattle.wf_complex.specs.Numbering.{same_at, first_places, stands, Knows, AllKnown, picked}
 
 distinct_new : {X : Type 0} (same : X → X → Bool) (xs : List X) (x : X) → list_any (λ y. same y x) xs ≡ false → distinct same (xs ++ x ∷ []) ≡ distinct same xs ++ x ∷ []

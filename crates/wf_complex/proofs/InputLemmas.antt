@@ -8,8 +8,7 @@ use Rattle.std.proofs.lemmas.List.Elements.{recursion_from_All, All-from_recursi
 use Rattle.wf_model.specs.Simplex.{Simplex, processes_of, values_of, is_nonempty, is_ascending}
 use Rattle.wf_model.specs.Task.{IsSimplexWithin}
 use Rattle.wf_model.specs.View.{View, base, base_views, process_of}
-use Rattle.wf_model.proofs.MapsAreSolutions.{weaker}
-use Rattle.wf_model.proofs.WellFormed.{base_processes}
+use Rattle.wf_model.proofs.Lemmas.{weaker, base_processes}
 use Rattle.wf_complex.specs.Rounds.{views_at, AreViews, Extends, leaves, leaves_of, cost, cost_of_each}
 use Rattle.wf_complex.proofs.RoundLemmas.{views_kept, length-views}
 use Rattle.wf_model.specs.Word.{Word, words}

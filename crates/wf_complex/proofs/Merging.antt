@@ -7,9 +7,7 @@ use Rattle.std.proofs.lemmas.Simd.{map-map}
 use Rattle.wf_model.specs.Lists.{distinct, below}
 use Rattle.wf_model.specs.View.{View, base}
 use Rattle.wf_model.specs.Problem.{number_of}
-use Rattle.wf_model.proofs.Basics.{by_place}
-use Rattle.wf_model.proofs.MapsAreSolutions.{weaker}
-use Rattle.wf_model.proofs.Numbers.{Apart, apart_distinct, map_same}
+use Rattle.wf_model.proofs.Lemmas.{by_place, weaker, Apart, apart_distinct, map_same}
 use Rattle.wf_complex.specs.Views.{view_at}
 use Rattle.wf_complex.proofs.Ranked.{number_of-at}
 use Rattle.wf_complex.specs.Rounds.{views_at}

@@ -9,7 +9,7 @@ use Rattle.std.proofs.lemmas.List.Sorted.{searched}
 use Rattle.std.proofs.lemmas.List.Elements.{All-get_or, All-from_recursion}
 use Rattle.wf_model.specs.Lists.{has}
 use Rattle.wf_model.specs.Simplex.{is_ascending}
-use Rattle.wf_model.proofs.Ascending.{Ascends, ascends_from}
+use Rattle.wf_model.proofs.Lemmas.{Ascends, ascends_from}
 use Rattle.wf_complex.specs.Renaming.{number_beside}
 
 not_falling : (xs : List ℕ) → Ascends xs → (i j : ℕ) → i ≤ j → j < length xs → get_or xs i 0 ≤ get_or xs j 0

@@ -13,7 +13,7 @@ use Rattle.wf_complex.specs.ProtocolSeen.{scopes_seen}
 use Rattle.wf_complex.proofs.Bounds.{IsSized}
 use Rattle.wf_complex.proofs.ExecutionsInOrder.{all_end}
 use Rattle.wf_complex.proofs.PlaceLemmas.{length-part_of, length-processes_on}
-use Rattle.wf_model.proofs.Numbers.{map_same}
+use Rattle.wf_model.proofs.Lemmas.{map_same}
 
 -- ---- four points
 

@@ -11,9 +11,7 @@ use Rattle.std.proofs.lemmas.List.Elements.{recursion_from_All, All-from_recursi
 use Rattle.wf_model.specs.Lists.{below, has}
 use Rattle.wf_model.specs.View.{View, base, seen, Views, no_views, view, same_view, occurs, occurs_in, renamed, renamed_each, rank, normal}
 use Rattle.wf_model.specs.Problem.{number_of}
-use Rattle.wf_model.proofs.MapsAreSolutions.{Among, same_itself, weaker}
-use Rattle.wf_model.proofs.Headline.{each_append}
-use Rattle.wf_model.proofs.Numbers.{Apart, other_way}
+use Rattle.wf_model.proofs.Lemmas.{Among, same_itself, weaker, each_append, Apart, other_way}
 use Rattle.wf_complex.specs.Views.{view_at, with_view, inner_views, process_bits, process_bits_of_each, count_within}
 use Rattle.wf_complex.specs.Renaming.{rank_in, are_lowest, SawAmong, SawEarlier, AreInside, number_beside, AreRenamed}
 use Rattle.wf_complex.proofs.ShownViews.{views_at_front}

@@ -7,8 +7,7 @@ use Rattle.std.specs.Int.{bit_at}
 use Rattle.std.proofs.lemmas.List.Elements.{filter-append}
 use Rattle.std.proofs.lemmas.List.FromFn.{length-range_with_len}
 use Rattle.wf_model.specs.Lists.{below}
-use Rattle.wf_model.proofs.Basics.{below_next}
-use Rattle.wf_model.proofs.CanonicalSteps.{length_filter}
+use Rattle.wf_model.proofs.Lemmas.{below_next, length_filter}
 use Rattle.wf_complex.specs.Renaming.{rank_in, are_lowest}
 
 pub rank_in-next : (s p : ℕ) → rank_in s (p + 1) ≡ rank_in s p + cond (bit_at s p == 1) 1 0

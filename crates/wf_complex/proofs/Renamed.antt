@@ -6,8 +6,7 @@ use Rattle.std.proofs.lemmas.List.{length-map}
 use Rattle.std.proofs.lemmas.List.Elements.{recursion_from_All, All-from_recursion}
 use Rattle.wf_model.specs.Lists.{has}
 use Rattle.wf_model.specs.View.{View, seen, view, views_of, same_view, renamed, renamed_each}
-use Rattle.wf_model.proofs.MapsAreSolutions.{Among, same_is, weaker}
-use Rattle.wf_model.proofs.Headline.{each_map, each_of_map, both}
+use Rattle.wf_model.proofs.Lemmas.{Among, same_is, weaker, each_map, each_of_map, both}
 use Rattle.wf_complex.specs.declared.node.Node.{Node}
 use Rattle.wf_complex.specs.Views.{view_at, inner_views}
 use Rattle.wf_complex.specs.Table.{seen_node, node_view, shown, IsEntry, is_base, is_seen, AreEntriesFrom}

@@ -9,9 +9,7 @@ use Rattle.wf_model.specs.Lists.{has}
 use Rattle.wf_model.specs.Simplex.{is_ascending}
 use Rattle.wf_model.specs.View.{View, base, seen, views_of, process_of, same_view, visible, round}
 use Rattle.wf_model.specs.Word.{Word}
-use Rattle.wf_model.proofs.MapsAreSolutions.{weaker}
-use Rattle.wf_model.proofs.Headline.{each_map, each_of_map}
-use Rattle.wf_model.proofs.Ascending.{Ascends, ascends_from, is_ascending_from}
+use Rattle.wf_model.proofs.Lemmas.{weaker, each_map, each_of_map, Ascends, ascends_from, is_ascending_from}
 use Rattle.wf_complex.specs.Views.{view_at, view_seen, with_view}
 use Rattle.wf_complex.proofs.ShownViews.{views_at_front}
 use Rattle.wf_complex.specs.Rounds.{views_at, visible_ids, Extends, AreViews}

@@ -10,9 +10,7 @@ use Rattle.wf_model.specs.Task.{Task, Rule, first_block}
 use Rattle.wf_model.specs.Execution.{Execution, executions_on, executions, last_views}
 use Rattle.wf_model.specs.Points.{points}
 use Rattle.wf_model.specs.Problem.{Constraint, constraint_of, problem_of}
-use Rattle.wf_model.proofs.RefutingLines.{each_at}
-use Rattle.wf_model.proofs.Headline.{always}
-use Rattle.wf_model.proofs.WellFormed.{each_execution_with, last_processes, scope_processes}
+use Rattle.wf_model.proofs.Lemmas.{each_at, always, each_execution_with, last_processes, scope_processes}
 use Rattle.wf_complex.specs.Protocol.{Built, IsProtocol, simplices_of}
 
 -- ---- the rule of an execution stands at the number of its simplex

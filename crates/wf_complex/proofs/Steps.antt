@@ -7,7 +7,7 @@ use Rattle.std.proofs.lemmas.Option.{slice_get_within, get_or_from_slice_get}
 use Rattle.indexmap.specs.IndexSet.{insert_key}
 use Rattle.wf_model.specs.View.{View, base, same_view}
 use Rattle.wf_model.specs.Problem.{number_of}
-use Rattle.wf_model.proofs.MapsAreSolutions.{number_below}
+use Rattle.wf_model.proofs.Lemmas.{number_below}
 use Rattle.wf_complex.specs.declared.node.Node.{Node}
 use Rattle.wf_complex.specs.Views.{view_at, with_view, process_bits}
 use Rattle.wf_complex.specs.Table.{same_node, node_view, shown, IsEntry, StandsAt, IsTable}

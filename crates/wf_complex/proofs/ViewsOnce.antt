@@ -6,7 +6,7 @@ use Rattle.std.proofs.lemmas.Bool.{cases_Bool, cases_lt, or_cases, or_left, or_r
 use Rattle.std.proofs.lemmas.Map.Keys.{apart_from_distinct}
 use Rattle.wf_model.specs.View.{View, base, views_of, same_view}
 use Rattle.wf_model.specs.Problem.{number_of}
-use Rattle.wf_model.proofs.MapsAreSolutions.{Among, same_is, same_itself, number_below, weaker}
+use Rattle.wf_model.proofs.Lemmas.{Among, same_is, same_itself, number_below, weaker}
 use Rattle.wf_complex.specs.declared.node.Node.{Node}
 use Rattle.wf_complex.specs.Views.{view_at, view_seen}
 use Rattle.wf_complex.specs.Table.{base_node, seen_node, same_node, node_view, shown, IsEntry, is_base, is_seen, AreEntriesFrom, StandsAt}

@@ -4,10 +4,7 @@ use Rattle.std.specs.List.{list_any, AllByRecursion}
 use Rattle.std.proofs.lemmas.Bool.{cases_Bool, or_cases, or_left, or_right, both_ways, false≢true, false_from_ne_true}
 use Rattle.wf_model.specs.Lists.{distinct}
 use Rattle.wf_model.specs.View.{View, base, seen, Views, no_views, view, same_view}
-use Rattle.wf_model.proofs.MapsAreSolutions.{Among, same_is, same_itself, among_filtered, among_distinct, among_append_left, among_append_right, weaker}
-use Rattle.wf_model.proofs.Headline.{both}
-use Rattle.wf_model.proofs.CanonicalSteps.{length_filter}
-use Rattle.wf_model.proofs.Numbers.{Apart, other_way}
+use Rattle.wf_model.proofs.Lemmas.{Among, same_is, same_itself, among_filtered, among_distinct, among_append_left, among_append_right, weaker, both, length_filter, Apart, other_way}
 use Rattle.wf_complex.specs.Views.{view_at, list_of, inner_views, views_within, views_within_each, count_within}
 
 -- ---- what is inside what is inside

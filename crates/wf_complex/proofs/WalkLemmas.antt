@@ -6,7 +6,7 @@ use Rattle.std.proofs.lemmas.List.{take_more}
 use Rattle.std.proofs.lemmas.Option.{slice_get_within, get_or_from_slice_get}
 use Rattle.wf_model.specs.View.{View, round}
 use Rattle.wf_model.specs.Word.{Word, words}
-use Rattle.wf_model.proofs.WellFormed.{words_long}
+use Rattle.wf_model.proofs.Lemmas.{words_long}
 use Rattle.wf_complex.specs.declared.rounds.Sight.{Sight}
 use Rattle.wf_complex.specs.Rounds.{views_at, words_in, Extends, leaves, cost}
 use Rattle.wf_complex.proofs.RoundLemmas.{views_kept, length-views, length-round}

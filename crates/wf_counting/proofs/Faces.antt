@@ -11,7 +11,7 @@ use Rattle.std.proofs.lemmas.Bool.{cases_Bool, false≢true}
 use Rattle.std.proofs.lemmas.List.Elements.{Contains-get_or}
 use Rattle.wf_model.specs.Lists.{in_order, with_element}
 use Rattle.wf_model.specs.Simplex.{Simplex, Vertex, complex_of, faces_of, is_nonempty, parts_of, simplex_cmp, vertex_cmp}
-use Rattle.wf_model.proofs.Headline.{each_of_map}
+use Rattle.wf_model.proofs.Lemmas.{each_of_map}
 use Rattle.wf_model.specs.Task.{Task}
 use Rattle.wf_counting.specs.Rules.{no_rule, rule_at}
 use Rattle.wf_counting.specs.Signs.{keep}

@@ -1,3 +1,4 @@
+pub mod Lemmas
 -- Sums and signs.
 pub mod Sums
 pub mod Remainders

@@ -6,9 +6,8 @@ use Rattle.wf_model.specs.Lists.{has}
 use Rattle.wf_model.specs.Simplex.{Simplex, processes_of, values_of}
 use Rattle.wf_model.specs.Word.{Word}
 use Rattle.wf_model.specs.View.{View, base, seen, view, views_of, process_of, base_views, visible, round, occurs, occurs_in, renamed, renamed_each, normal}
-use Rattle.wf_model.proofs.Headline.{each_filter, each_map}
+use Rattle.wf_model.proofs.Lemmas.{each_filter, each_map, count, normal_counted, one_if}
 use Rattle.wf_counting.proofs.Lists.{Between, all_from, each, map_same_on, not_there}
-use Rattle.wf_model.proofs.Ranks.{count, normal_counted, one_if}
 
 -- ---- rounds of renamed views
 

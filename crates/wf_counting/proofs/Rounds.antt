@@ -5,7 +5,7 @@ use Rattle.std.proofs.lemmas.List.{length-map}
 use Rattle.wf_model.specs.Lists.{below, lists_of}
 use Rattle.wf_model.specs.Word.{Word, words}
 use Rattle.wf_model.specs.View.{View, base, seen, process_of, round, views_of, visible}
-use Rattle.wf_model.proofs.WellFormed.{words_long}
+use Rattle.wf_model.proofs.Lemmas.{words_long}
 use Rattle.wf_counting.specs.Signs.{same_sign, is_even_word, is_even, total, keep}
 use Rattle.wf_counting.proofs.Sums.{total_append, total_map, total_same, total_flat, total_balanced, keep_map, not_not, twice, turned_later}
 use Rattle.wf_counting.proofs.Words.{all_cancel, alone, cancelled, counted, round_rows, rows, view_of, with_others}

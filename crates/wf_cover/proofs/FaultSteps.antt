@@ -13,7 +13,7 @@ use Rattle.wf_cover.specs.declared.cover.CoverFault.{CoverFault}
 use Rattle.wf_cover.specs.declared.cover.CoverFault.TheVariants.{NoCorner, NoSheet, OneParticipant}
 use Rattle.wf_cover.specs.Faults.{cover_fault, cover_seen, flat_fault}
 use Rattle.wf_cover.specs.Turns.{IsGoing}
-use Rattle.wf_refine.proofs.CaseSteps.{rule_with}
+use Rattle.wf_refine.proofs.Lemmas.{rule_with}
 use Rattle.wf_cover.proofs.Rounds.{not_below}
 
 not_up_to : (m n : ℕ) → n < m → nat_le m n ≡ false

@@ -1,3 +1,4 @@
+pub mod Lemmas
 pub mod TurnLemmas
 pub mod Rounds
 pub mod FaultSteps

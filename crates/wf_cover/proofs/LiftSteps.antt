@@ -11,7 +11,7 @@ use Rattle.std.proofs.lemmas.List.FromFn.{length-map-range_with_len, map-range_w
 use Rattle.wf_model.specs.Lists.{below, has}
 use Rattle.wf_model.specs.Simplex.{Simplex, processes_of}
 use Rattle.wf_model.specs.Task.{Rule, Task, Tuple}
-use Rattle.wf_model.proofs.Ascending.{Ascends}
+use Rattle.wf_model.proofs.Lemmas.{Ascends}
 use Rattle.wf_simplex.proofs.Lemmas.{Has, has-flat_map, has-map, has_of_all}
 use Rattle.wf_simplex.specs.Entries.{place_in}
 use Rattle.wf_simplex.specs.Order.{same_simplex-decides}
@@ -20,16 +20,13 @@ use Rattle.wf_set.proofs.Lemmas.{values_listed}
 use Rattle.wf_counting.specs.Rules.{no_rule, rule_at}
 use Rattle.wf_counting.specs.Signs.{keep}
 use Rattle.wf_trees.specs.Covers.{Covering, all_places, corner_vertex, is_corner, is_flat, is_flat_at, is_flat_on, lifted, lifts, lifts_on_corner, lifts_on_face, moved, sheets_of, tuples_covered}
-use Rattle.wf_trees.proofs.Members.{contains}
+use Rattle.wf_trees.proofs.Lemmas.{contains}
 use Rattle.wf_trees.specs.Trees.{move_by, new_name}
 use Rattle.wf_trees.specs.Tuples.{choices_of, is_kept, is_part, mask_of, value_at}
 use Rattle.wf_refine.specs.Limits.{tuples_fault}
 use Rattle.wf_refine.specs.Names.{first_new}
 use Rattle.wf_refine.specs.declared.fault.RefineFault.TheVariants.{TooManyNames}
-use Rattle.wf_refine.proofs.Assembling.{choices_long, element_has}
-use Rattle.wf_refine.proofs.CaseSteps.{rule_with}
-use Rattle.wf_refine.proofs.KeyLemmas.{each_place}
-use Rattle.wf_refine.proofs.SplitSteps.{face_keeps}
+use Rattle.wf_refine.proofs.Lemmas.{choices_long, element_has, rule_with, each_place, face_keeps}
 use Rattle.wf_cover.specs.declared.cover.Covering as code_cover
 use Rattle.wf_cover.specs.Faults.{cover_fault, cover_seen, moves_seen}
 use Rattle.wf_cover.specs.LiftSeen.{sheeted}

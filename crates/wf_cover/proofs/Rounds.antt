@@ -12,7 +12,7 @@ use Rattle.wf_cover.specs.declared.cover.Move as code
 use Rattle.wf_cover.specs.declared.cover.CoverFault.TheVariants.{NotFlat}
 use Rattle.wf_cover.specs.Faults.{flat_fault, moves_seen}
 use Rattle.wf_cover.specs.Turns.{IsGoing, is_flat_by, is_flat_tuple, moved_by}
-use Rattle.wf_refine.proofs.KeyLemmas.{each_place, from_each_place}
+use Rattle.wf_refine.proofs.Lemmas.{each_place, from_each_place}
 
 -- ---- all places
 

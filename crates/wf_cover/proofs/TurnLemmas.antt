@@ -2,7 +2,7 @@
 use Rattle.std.proofs.Common.{◌≡◌, ℕ, suc, ◌+◌, ◌*◌, ◌==◌, ◌&&◌, ◌<◌, ◌≤◌, Bool, true, false, List, [], ◌∷◌, cond, get_or, length, slice_index_or, Option, None, Some, refl, sym, ap, ap₂, ◌∙◌, subst, arith}
 use Rattle.std.specs.List.{AllByRecursion}
 use Rattle.std.proofs.lemmas.Bool.{and_from, and_parts, cond-false, eq-eqb, eqb-true, ne_eqb}
-use Rattle.wf_model.proofs.Basics.{and_turned}
+use Rattle.wf_model.proofs.Lemmas.{and_turned}
 use Rattle.wf_model.specs.Task.{Tuple}
 use Rattle.wf_trees.specs.Tuples.{value_at}
 use Rattle.wf_trees.specs.Trees.{is_move, move_by, position}

@@ -20,7 +20,7 @@ use Rattle.wf_draft.specs.Draft.{or_fault}
 use Rattle.wf_draft.specs.Text.{json_of}
 use Rattle.wf_draft.specs.Parts.{parts, item_parts, member_parts, IsOfText, IsPart}
 use Rattle.wf_draft.proofs.Vertices.{found_both, first_and_rest}
-use Rattle.wf_model.proofs.Basics.{some_of}
+use Rattle.wf_model.proofs.Lemmas.{some_of}
 
 -- ---- from bytes to tokens
 

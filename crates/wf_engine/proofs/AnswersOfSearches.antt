@@ -7,12 +7,7 @@ use Rattle.wf_model.specs.Problem.{problem_of}
 use Rattle.wf_model.specs.DecisionMap.{listed}
 use Rattle.wf_model.specs.Refutation.{Line}
 use Rattle.wf_model.specs.Closing.{canonical}
-use Rattle.wf_model.proofs.MapsAreSolutions.{by_number}
-use Rattle.wf_model.proofs.Numbers.{listed_by_number}
-use Rattle.wf_model.proofs.CanonicalRefutations.{canonical_none_refutes}
-use Rattle.wf_model.proofs.LinesToMaps.{canonical_leads}
-use Rattle.wf_model.proofs.LeastSolutions.{answer_least, answer_none, canonical_least, root_is_box}
-use Rattle.wf_model.proofs.WellFormed.{task_well_formed}
+use Rattle.wf_model.proofs.Lemmas.{by_number, listed_by_number, canonical_none_refutes, canonical_leads, answer_least, answer_none, canonical_least, root_is_box, task_well_formed}
 use Rattle.wf_model.specs.Report.{none}
 pub use Rattle.wf_complex.proofs.Lemmas.{and_more}
 use Rattle.wf_pool.specs.Answers.{HasAccountOfMap, map_lines, refuting_lines}

@@ -11,7 +11,7 @@ use Rattle.wf_run.specs.Run.{Answers, Asks, Hands, IsTaskOf, Next, Reads}
 use Rattle.wf_engine.specs.Texts.{IsFound}
 use Rattle.wf_engine.specs.Headline.{AnswersAreTrue, Says}
 use Rattle.wf_run.specs.Given.{GaveTask}
-use Rattle.wf_run.proofs.GivenTask.{task_read}
+use Rattle.wf_run.proofs.Lemmas.{task_read}
 
 says : (form : Form) (t : Task) (r : ℕ) (found : Outcome) (text : List ℕ) → IsFound form t r found text → Says form t r found text
 says form t r outcome.Map text (m, ls, least, leads, is) = (m, least, (ls, is))

@@ -12,14 +12,7 @@ use Rattle.wf_model.specs.Problem.{Problem, IsSolution, IsWellFormed, problem_of
 use Rattle.wf_model.specs.Box.{Box, LiesIn, root, candidates}
 use Rattle.wf_model.specs.Closing.{canonical}
 use Rattle.wf_model.specs.Laws.{LiesAt, LiesInExactlyOne}
-use Rattle.wf_model.proofs.MapsAreSolutions.{weaker, listed_solves, solution_decides}
-use Rattle.wf_model.proofs.Headline.{each_flat, each_map, each_filter, both}
-use Rattle.wf_model.proofs.TreesAreSound.{has_value}
-use Rattle.wf_model.proofs.Numbers.{listed_by_number}
-use Rattle.wf_model.proofs.Order.{below_itself, below_one_way}
-use Rattle.wf_model.proofs.LeastSolutions.{solution_in_root, answer_least, answer_none}
-use Rattle.wf_model.proofs.OrderedCovers.{in_order, in_exactly_one, split_covers, split_closed}
-use Rattle.wf_model.proofs.WellFormed.{task_well_formed}
+use Rattle.wf_model.proofs.Lemmas.{weaker, listed_solves, solution_decides, each_flat, each_map, each_filter, both, has_value, listed_by_number, below_itself, below_one_way, solution_in_root, answer_least, answer_none, in_order, in_exactly_one, split_covers, split_closed, task_well_formed}
 use Rattle.wf_clauses.specs.Formula.{Assignment, Clause, satisfies, IsOn, IsModel, HasModel, IsUnsatisfiable, NamesItsVariables}
 use Rattle.wf_formula.specs.Encoding.{variable, formula_of, least_true, map_in, stating}
 use Rattle.wf_formula.specs.Laws.{HasFullTuples}

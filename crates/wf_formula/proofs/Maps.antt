@@ -7,9 +7,7 @@ use Rattle.std.proofs.lemmas.List.Elements.{recursion_from_All, All-from_recursi
 use Rattle.wf_model.specs.Lists.{below, has}
 use Rattle.wf_model.specs.Box.{LiesIn, root, candidates, has_at}
 use Rattle.wf_model.specs.Problem.{Problem, Constraint, Participant, IsSolution, IsWellFormed, Satisfies, values_at}
-use Rattle.wf_model.proofs.MapsAreSolutions.{weaker}
-use Rattle.wf_model.proofs.Headline.{each_append, each_map, each_flat}
-use Rattle.wf_model.proofs.TreesAreSound.{has_value}
+use Rattle.wf_model.proofs.Lemmas.{weaker, each_append, each_map, each_flat, has_value}
 use Rattle.wf_clauses.specs.Formula.{Assignment, Clause, holds, pos, IsModel}
 use Rattle.wf_formula.specs.Patterns.{Pattern, fits, is_forbidden, minimal_patterns}
 use Rattle.wf_formula.specs.Encoding.{variable, at_least_one, point_at, denied, clauses_of, formula_of, stating}

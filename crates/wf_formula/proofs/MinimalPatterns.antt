@@ -6,10 +6,7 @@ use Rattle.std.proofs.lemmas.List.{length-map}
 use Rattle.wf_model.specs.Lists.{below, has, lists_of}
 use Rattle.wf_model.specs.Simplex.{parts_of}
 use Rattle.wf_model.specs.Task.{Tuple}
-use Rattle.wf_model.proofs.Basics.{length-below}
-use Rattle.wf_model.proofs.MapsAreSolutions.{weaker}
-use Rattle.wf_model.proofs.Headline.{each_map, each_flat, each_filter, always, both}
-use Rattle.wf_model.proofs.WellFormed.{each_of_lists}
+use Rattle.wf_model.proofs.Lemmas.{length-below, weaker, each_map, each_flat, each_filter, always, both, each_of_lists}
 use Rattle.wf_formula.specs.Patterns.{Entry, Pattern, is_forbidden, one_less, is_minimal, place_lists, patterns_at, patterns, minimal_patterns}
 use Rattle.wf_formula.proofs.Members.{In, Part, in_filter, in_flat, in_map, in_below, in_parts, in_lists, part_rest, part_long, each_below, each_of_parts, has_each}
 

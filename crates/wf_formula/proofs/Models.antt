@@ -10,9 +10,7 @@ use Rattle.wf_model.specs.Task.{Tuple}
 use Rattle.wf_model.specs.Box.{has_at}
 use Rattle.wf_model.specs.Problem.{Problem, Constraint, Participant, IsSolution, IsWellFormed, Satisfies, values_at}
 use Rattle.wf_model.specs.Check.{satisfies}
-use Rattle.wf_model.proofs.Basics.{length-below}
-use Rattle.wf_model.proofs.MapsAreSolutions.{weaker}
-use Rattle.wf_model.proofs.SolutionTests.{satisfies_says, satisfies_tests}
+use Rattle.wf_model.proofs.Lemmas.{length-below, weaker, satisfies_says, satisfies_tests}
 use Rattle.wf_clauses.specs.Formula.{Assignment, Clause, holds, pos, IsModel}
 use Rattle.wf_formula.specs.Patterns.{Entry, Pattern, has_entry, fits, is_forbidden, one_less, is_minimal, patterns, minimal_patterns}
 use Rattle.wf_formula.specs.Encoding.{variable, at_least_one, point_at, denied, clauses_of, formula_of, least_true, map_in}

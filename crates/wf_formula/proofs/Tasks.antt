@@ -10,9 +10,7 @@ use Rattle.wf_model.specs.Execution.{Execution, executions, last_views}
 use Rattle.wf_model.specs.Points.{points}
 use Rattle.wf_model.specs.DecisionMap.{IsDecisionMap, HasNoDecisionMap, listed}
 use Rattle.wf_model.specs.Problem.{Problem, Constraint, Participant, IsWellFormed, problem_of, constraint_of, map_by_number}
-use Rattle.wf_model.proofs.MapsAreSolutions.{weaker, listed_solves, solution_decides}
-use Rattle.wf_model.proofs.Headline.{each_append, each_map, each_flat, lies_in_root}
-use Rattle.wf_model.proofs.WellFormed.{task_listed, task_well_formed, each_execution_with, last_processes, scope_processes}
+use Rattle.wf_model.proofs.Lemmas.{weaker, listed_solves, solution_decides, each_append, each_map, each_flat, lies_in_root, task_listed, task_well_formed, each_execution_with, last_processes, scope_processes}
 use Rattle.wf_clauses.specs.Formula.{Assignment, Clause, Literal, pos, neg, IsModel, HasModel, IsUnsatisfiable, NamesItsVariables, variable_of}
 use Rattle.wf_formula.specs.Patterns.{Entry, Pattern, is_forbidden, minimal_patterns}
 use Rattle.wf_formula.specs.Encoding.{variable, at_least_one, point_at, denied, clauses_of, formula_of, question, map_in, stating}

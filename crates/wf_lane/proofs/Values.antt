@@ -17,7 +17,7 @@ use Rattle.wf_set.specs.Parts.{part_holds, part_values}
 use Rattle.wf_set.specs.Sets.{values_in}
 use Rattle.wf_lane.specs.Words.{Words, is_live, joined_words, meets}
 use Rattle.wf_lane.specs.Table.{AreFirstParts, AreOneHot, IsFirstPart, IsOneHot, four_values, opened, row_of, sets_of, value_of}
-use Rattle.wf_model.proofs.Basics.{has-filter, has_at-take}
+use Rattle.wf_model.proofs.Lemmas.{has-filter, has_at-take}
 
 test_bit : (b x : ℕ) → b < 2 → 0 < x → not (b * x == 0) ≡ (b == 1)
 test_bit zero x h pos = ap not (eq-eqb (0 * x) 0 (omega arith))

@@ -12,9 +12,7 @@ use Rattle.wf_report.specs.Reading.{lacks}
 use Rattle.wf_report.specs.Steps.{step_in}
 use Rattle.wf_report.specs.declared.reading.Section.{Section}
 use Rattle.wf_report.specs.declared.reading.Section.TheVariants.{Values, Refutation, Search}
-use Rattle.wf_report.proofs.ReadLemmas.{last_piece, lines_cut, no_words, not_ended, number_by, number_is, some_line}
-use Rattle.wf_report.proofs.BodyLemmas.{steps_of_lines, values_of_lines}
-use Rattle.wf_report.proofs.ReadBackLemmas.{number_line, step_there, value_there}
+use Rattle.wf_report.proofs.Lemmas.{last_piece, lines_cut, no_words, not_ended, number_by, number_is, some_line, steps_of_lines, values_of_lines, number_line, step_there, value_there}
 use Rattle.wf_long.specs.Fronts.{IsBadLine}
 
 -- ---- the first line

@@ -10,8 +10,7 @@ use Rattle.wf_lines.specs.declared.line.Line as code
 use Rattle.wf_report.specs.declared.fault.CertFault.TheVariants as amiss
 use Rattle.wf_report.specs.declared.reading.Section.{Section}
 use Rattle.wf_report.specs.Steps.{step_in}
-use Rattle.wf_report.proofs.ReadLemmas.{lines_cut, number_at_line, number_step, same_ended}
-use Rattle.wf_report.proofs.BodyLemmas.{ended, front_by, front_is, items_from, onto, steps_are}
+use Rattle.wf_report.proofs.Lemmas.{lines_cut, number_at_line, number_step, same_ended, ended, front_by, front_is, items_from, onto, steps_are}
 use Rattle.wf_verify_engine.specs.declared.outcome.Accepted.{Accepted}
 use Rattle.wf_verify_engine.specs.declared.outcome.Accepted.TheVariants.{Map, Nothing, Least}
 use Rattle.wf_long.specs.Fronts.{FailsAt, answer_of}

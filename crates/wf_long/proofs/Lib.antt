@@ -1,3 +1,4 @@
+pub mod Lemmas
 pub mod BadLines
 pub mod Chains
 pub mod Fronts

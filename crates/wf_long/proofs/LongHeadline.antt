@@ -2,7 +2,7 @@
 use Rattle.std.proofs.Common.{subst}
 use Rattle.wf_io.specs.Texts.{Wrote}
 use Rattle.wf_verify_engine.specs.Verify.{IsAccepted}
-use Rattle.wf_verify_engine.proofs.Headline.{of_check}
+use Rattle.wf_verify_engine.proofs.Lemmas.{of_check}
 use Rattle.wf_long.specs.Long.{IsLongReportOf, most_report_bytes}
 use Rattle.wf_long.specs.Headline.{LongAcceptancesAreTrue}
 

@@ -19,7 +19,7 @@ use Rattle.wf_report.specs.declared.reading.Section.{Section}
 use Rattle.wf_report.specs.declared.reading.Section.TheVariants.{Values, Refutation, Search}
 use Rattle.wf_report.specs.declared.report.Header.{Header}
 use Rattle.wf_check.specs.Faults.{Fails, Judges}
-use Rattle.wf_check.proofs.TruthLemmas.{faultless_is_true}
+use Rattle.wf_check.proofs.Lemmas.{faultless_is_true}
 use Rattle.wf_run.specs.Faults.{of_report_fault}
 use Rattle.wf_run.specs.Run.{HasComplex}
 use Rattle.wf_run.specs.declared.fault.RunFault.{RunFault}

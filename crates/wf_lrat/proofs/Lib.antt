@@ -1,3 +1,4 @@
+pub mod Lemmas
 pub mod LiteralLemmas
 pub mod HintLemmas
 pub mod RatLemmas

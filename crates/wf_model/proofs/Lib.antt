@@ -1,3 +1,4 @@
+pub mod Lemmas
 pub mod Basics
 pub mod TreesAreSound
 pub mod Tuples

@@ -12,10 +12,9 @@ use Rattle.wf_network.specs.Problems.{IsNetwork, IsWide, constraint_seen, constr
 use Rattle.wf_network.specs.Users.{no_execution}
 use Rattle.wf_set.specs.Parts.{part_limit, part_values}
 use Rattle.wf_set.specs.Sets.{values_in}
-use Rattle.wf_set.proofs.Lemmas.{has_large, in_four}
-use Rattle.wf_set.proofs.SetLaws.{values_of_part}
+use Rattle.wf_set.proofs.Lemmas.{has_large, in_four, values_of_part}
 use Rattle.wf_model.specs.Lists.{has}
-use Rattle.wf_model.proofs.Basics.{has-filter}
+use Rattle.wf_model.proofs.Lemmas.{has-filter}
 use Rattle.wf_network.specs.Revising.{AreKnown, IsKnown, IsKnownNibbles, IsKnownParts, IsKnownWord, answer_seen, answers_in, nibbles_seen, table_seen, wide_set, widened, word_seen}
 use Rattle.wf_network.specs.declared.memo.TheConstants.{NO_EXECUTION}
 use Rattle.wf_network.specs.declared.memo.Memo.{Memo}

@@ -9,8 +9,7 @@ use Rattle.wf_model.specs.Lists.{has}
 use Rattle.wf_lane.specs.Table.{HasSupported, Table, sets_of}
 use Rattle.wf_set.specs.Parts.{part_values}
 use Rattle.wf_set.specs.Sets.{values_in}
-use Rattle.wf_set.proofs.Lemmas.{has-part_values, has_large}
-use Rattle.wf_set.proofs.SetLaws.{values_of_part}
+use Rattle.wf_set.proofs.Lemmas.{has-part_values, has_large, values_of_part}
 use Rattle.wf_network.specs.Revising.{AreBeyond, nibbles_in, parts_in, wide_set, widened}
 use Rattle.wf_network.proofs.LeftLemmas.{sets_at, supported_there}
 

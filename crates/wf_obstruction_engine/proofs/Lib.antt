@@ -1,2 +1,3 @@
+pub mod Lemmas
 pub mod SearchRuns
 pub mod TriedNodes

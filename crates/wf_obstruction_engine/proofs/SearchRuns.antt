@@ -8,8 +8,7 @@ use Rattle.wf_run.specs.declared.fault.RunFault.{RunFault}
 use Rattle.wf_run.specs.declared.fault.RunFault.TheVariants as run
 use Rattle.wf_run.specs.Given.{GaveTask}
 use Rattle.wf_run.specs.Run.{IsTaskOf, Next, Reads, by_result, failed_reads, failed_writes}
-use Rattle.wf_run.proofs.Counts.{Told, few, handed, judged}
-use Rattle.wf_run.proofs.GivenTask.{task_read}
+use Rattle.wf_run.proofs.Lemmas.{Told, few, handed, judged, task_read}
 use Rattle.wf_obstruction_engine.specs.declared.finding.Finding.{Finding}
 use Rattle.wf_obstruction_engine.specs.declared.finding.Finding.TheVariants.{Found, NotFound, GaveUp}
 use Rattle.wf_obstruction_engine.specs.declared.finding.GaveUp as gave_up

@@ -8,11 +8,7 @@ use Rattle.wf_model.specs.Closing.{Trace, canonical}
 use Rattle.wf_model.specs.Split.{split}
 use Rattle.wf_model.specs.Outline.{Item}
 use Rattle.wf_model.specs.Laws.{HasCanonicalLines, IsLeastIn, IsClosedBranch}
-use Rattle.wf_model.proofs.CanonicalRefutations.{canonical_none_refutes}
-use Rattle.wf_model.proofs.TreesAreSound.{none_refutes}
-use Rattle.wf_model.proofs.LeastSolutions.{canonical_least, root_is_box}
-use Rattle.wf_model.proofs.OrderedCovers.{first_least, one_least, split_covers, split_closed}
-use Rattle.wf_model.proofs.OutlinesAsSearches.{filled_canonical}
+use Rattle.wf_model.proofs.Lemmas.{canonical_none_refutes, none_refutes, canonical_least, root_is_box, first_least, one_least, split_covers, split_closed, filled_canonical}
 use Rattle.wf_core.specs.declared.event.Account.{Account}
 use Rattle.wf_pool.specs.Answers.{HasAccountOfMap, HasAccountOfNone}
 use Rattle.wf_lines.specs.declared.line.Line.{Line}

@@ -7,7 +7,7 @@ use Rattle.std.proofs.lemmas.Bool.{false≢true}
 use Rattle.std.proofs.lemmas.List.Concat.{flat_map-append}
 use Rattle.wf_model.specs.Limits.{most_points}
 use Rattle.wf_model.specs.Lists.{below}
-use Rattle.wf_model.proofs.Basics.{below_next}
+use Rattle.wf_model.proofs.Lemmas.{below_next}
 use Rattle.wf_set.specs.Sets.{values_in}
 use Rattle.wf_clauses.specs.Formula.{Clause, Formula, Literal}
 use Rattle.wf_formula.specs.Encoding.{at_least_one, question, variable}
@@ -15,7 +15,7 @@ use Rattle.wf_rup.specs.Codes.{most_variables}
 use Rattle.wf_rup.specs.Kept.{AddsAtMost, IsKept, KnowsStill}
 use Rattle.wf_rup.specs.Posed.{IsPosed}
 use Rattle.wf_rup.specs.Seen.{KeepsModelsOf, Known, KnowsNothing}
-use Rattle.wf_rup.proofs.PosedLemmas.{posed_more, posed_none}
+use Rattle.wf_rup.proofs.Lemmas.{posed_more, posed_none}
 use Rattle.wf_model.specs.Task.{Task, values}
 use Rattle.wf_complex.specs.Protocol.{Built, IsProtocol}
 use Rattle.wf_formula.specs.Patterns.{Pattern}

@@ -14,13 +14,11 @@ use Rattle.wf_model.specs.Lists.{below, lists_of, in_order}
 use Rattle.wf_model.specs.Presets.{Inputs, own, all, input_facets, input_values, agreeing, different}
 use Rattle.wf_model.specs.Simplex.{Simplex, Vertex, processes_of, values_of, is_nonempty, parts_of, simplex_cmp, vertex_cmp, complex_of}
 use Rattle.wf_model.specs.Task.{Tuple}
-use Rattle.wf_model.proofs.CanonicalSteps.{length_filter}
+use Rattle.wf_model.proofs.Lemmas.{length_filter, length-below, values_of_zip, nonempty_length}
 use Rattle.wf_simplex.specs.Order.{simplex_cmp-total, simplex_cmp-Equal, nat_cmp-Equal}
 use Rattle.wf_simplex.proofs.Lemmas.{Has, has-in_order, in_order-has, same_in_order, has-filter, filter-has, has-flat_map, flat_map-has, of_some_facet, is_in_complex, complex_of-sorted}
 use Rattle.wf_task.specs.Canonical.{facets}
 use Rattle.wf_task.proofs.Lemmas.{length-lists_of, sorted-lists_of, sorted-pairs, sorted-below, map-has, has-map, has-lists_of, lists_of-has, has-below, below-has, length-among, length-pieces, each_has, has_each, different-among, vertex_of_part, facets-pure, length-zip-same, processes-zip-same, sorted-zips, map-part, single-part, repeated, nonempty-long, part-face, facet-in, complex_of-same, images, has-images, images-has}
-use Rattle.wf_model.proofs.Basics.{length-below}
-use Rattle.wf_model.proofs.WellFormed.{values_of_zip, nonempty_length}
 
 -- ---- input facets
 

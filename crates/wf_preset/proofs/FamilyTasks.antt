@@ -13,7 +13,7 @@ use Rattle.std.proofs.lemmas.List.Sums.{sum_by-le-sum_by}
 use Rattle.wf_model.specs.Lists.{below, lists_of, in_order}
 use Rattle.wf_model.specs.Simplex.{Simplex, Vertex, processes_of, values_of, complex_of}
 use Rattle.wf_model.specs.Task.{Rule, Tuple, IsTask, IsRule, IsSimplexWithin, IsComplexWithin}
-use Rattle.wf_model.proofs.Tasks.{on_processes, up_to}
+use Rattle.wf_model.proofs.Lemmas.{on_processes, up_to, values_of_zip}
 use Rattle.wf_model.specs.Limits.{most_processes, most_plain_value, most_vertices, most_inputs, most_tuples}
 use Rattle.wf_simplex.specs.Order.{nat_cmp-Equal}
 use Rattle.wf_simplex.proofs.Lemmas.{Has, has-in_order, sorted-in_order, in_order-sorted, length-in_order, has_at_place, has-filter, all_of_has, has_of_all, length-within, nonempty_of_simplex}
@@ -22,7 +22,6 @@ use Rattle.wf_preset.specs.declared.family.Family.TheVariants.{Agreement, Naming
 use Rattle.wf_preset.specs.Family.{values_for, allows, tuples_for, IsFamily, AreFew, images_of, task_for}
 use Rattle.wf_task.specs.TaskSeen.{rules_seen, task_of_parts}
 use Rattle.wf_task.proofs.Lemmas.{complex_is, seen_by, within_more, facet-in, has-images, images-has, sorted-lists_of, sorted-below, has-lists_of, has-below, each_has, tuple_cmp-Equal, sum_by-map, zip_within}
-use Rattle.wf_model.proofs.WellFormed.{values_of_zip}
 
 -- ---- values
 

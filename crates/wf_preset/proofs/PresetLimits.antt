@@ -25,7 +25,7 @@ use Rattle.wf_preset.proofs.AgreementOutputs.{agreement-outputs, agreement-facet
 use Rattle.wf_task.proofs.Lemmas.{has-some, length-zip-same, processes-zip-same, nonempty-long, facet-in, has-map, has-below}
 use Rattle.wf_preset.proofs.FamilyTasks.{rule_of_family, same_inputs, counted, task-is}
 use Rattle.wf_preset.proofs.RenamingOutputs.{start, processes-start, renaming-outputs, many-facets}
-use Rattle.wf_model.proofs.WellFormed.{values_of_zip}
+use Rattle.wf_model.proofs.Lemmas.{values_of_zip}
 
 -- ---- the limits of a task, one after another
 

@@ -9,13 +9,11 @@ use Rattle.wf_model.specs.Lists.{below, lists_of, in_order}
 use Rattle.wf_model.specs.Presets.{namings, all_different}
 use Rattle.wf_model.specs.Simplex.{Simplex, Vertex, processes_of, is_nonempty, parts_of, faces_of, simplex_cmp, complex_of}
 use Rattle.wf_model.specs.Task.{Tuple}
-use Rattle.wf_model.proofs.CanonicalSteps.{length_filter}
+use Rattle.wf_model.proofs.Lemmas.{length_filter, length-below, nonempty_length}
 use Rattle.wf_simplex.specs.Order.{simplex_cmp-total, simplex_cmp-Equal}
 use Rattle.wf_simplex.proofs.Lemmas.{Has, has-append, has-in_order, in_order-has, sorted-in_order, same_in_order, length-in_order, begins, has-filter, filter-has, has-flat_map, flat_map-has, whole_is_part, part_of_part, of_some_facet, is_in_complex, complex_of-sorted}
 use Rattle.wf_task.specs.Canonical.{is_inner, facets}
 use Rattle.wf_task.proofs.Lemmas.{sorted-lists_of, sorted-below, map-has, has-map, has-lists_of, lists_of-has, has-below, below-has, each_has, has_each, Differ, differ, all_different-from, vertex_of_part, facets-pure, length-zip-same, sorted-zips, map-part, named, unzipped, nonempty-long, part-face, facet-in, images, has-images, images-has}
-use Rattle.wf_model.proofs.Basics.{length-below}
-use Rattle.wf_model.proofs.WellFormed.{nonempty_length}
 
 -- the inputs before a name is taken
 abbrev pub start : ℕ → Simplex

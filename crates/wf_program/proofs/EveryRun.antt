@@ -9,7 +9,7 @@ use Rattle.wf_core.specs.declared.Account.{Account}
 use Rattle.wf_io.specs.Seen.{Reading, Writing}
 use Rattle.wf_argument_words.specs.Listing.{executions_text}
 use Rattle.wf_long.specs.Long.{most_report_bytes}
-use Rattle.wf_long.proofs.LongCounts.{long_counted}
+use Rattle.wf_long.proofs.Lemmas.{long_counted}
 use Rattle.wf_words.specs.declared.fault.WordsFault.{WordsFault}
 use Rattle.wf_args.specs.declared.Job.{Job}
 use Rattle.wf_args.specs.declared.Job.TheVariants as job
@@ -19,39 +19,31 @@ use Rattle.wf_engine.specs.Texts.{IsFound, IsSolved}
 use Rattle.wf_run.specs.declared.fault.RunFault.{RunFault}
 use Rattle.wf_run.specs.Texts.{IsTextOf, undecided_points}
 use Rattle.wf_run.specs.Laws.{IsCounted, IsWritten}
-use Rattle.wf_run.proofs.Counts.{counted, preset_counted}
+use Rattle.wf_run.proofs.Lemmas.{counted, preset_counted}
 use Rattle.wf_verify_engine.specs.Proofs.{most_proof_bytes}
 use Rattle.wf_verify_engine.specs.Verify.{AreDecisions}
-use Rattle.wf_verify_engine.proofs.CertificateCounts.{certified}
-use Rattle.wf_verify_engine.proofs.CheckCounts.{checked}
-use Rattle.wf_verify_engine.proofs.ModelCounts.{modelled}
-use Rattle.wf_verify_engine.proofs.ProofCounts.{proved}
-use Rattle.wf_verify_engine.proofs.HintCounts.{proved_by_hints}
+use Rattle.wf_verify_engine.proofs.Lemmas.{certified, checked, modelled, proved, proved_by_hints}
 use Rattle.wf_branches.specs.Branches.{IsBranchTextOf}
 use Rattle.wf_branches.specs.Joining.{most_parts_bytes}
 use Rattle.wf_branches.specs.Listing.{branches_text}
 use Rattle.wf_branches.specs.Solving.{IsSolvedIn}
-use Rattle.wf_branches.proofs.Counts.{branch_counted, branch_proved}
-use Rattle.wf_branches.proofs.HintedBranches.{branch_proved_by_hints}
-use Rattle.wf_branches.proofs.CheckedParts.{part_checked}
-use Rattle.wf_branches.proofs.JoinedTruth.{joining_counted}
+use Rattle.wf_branches.proofs.Lemmas.{branch_counted, branch_proved, branch_proved_by_hints, part_checked, joining_counted}
 use Rattle.wf_report_engine.specs.Trimming.{AreTrimmed}
-use Rattle.wf_report_engine.proofs.ExplainCounts.{explained_counted}
-use Rattle.wf_report_engine.proofs.LiftCounts.{lifting_counted}
+use Rattle.wf_report_engine.proofs.Lemmas.{explained_counted, lifting_counted}
 use Rattle.wf_obstruction_engine.specs.Laws.{IsSeekingCounted}
 use Rattle.wf_obstruction_engine.specs.declared.finding.Finding.{Finding}
 use Rattle.wf_obstruction_engine.specs.declared.finding.Finding.TheVariants as finding
-use Rattle.wf_obstruction_engine.proofs.SearchRuns.{seeking_counted}
+use Rattle.wf_obstruction_engine.proofs.Lemmas.{seeking_counted}
 use Rattle.wf_files.specs.Files.{Filing, Opening, Opens, state_of}
 use Rattle.wf_files.specs.FileRuns.{WithFile}
 use Rattle.wf_files.specs.Laws.{Checked, IsFiled, IsFileRun}
-use Rattle.wf_files.proofs.FileCounts as files
+use Rattle.wf_files.proofs.Lemmas as files
 use Rattle.wf_service.specs.Refusals.{as_file_refusal, fault_status, refusal_status}
 use Rattle.wf_service.specs.Laws.{IsDeclined, calls_by, calls_by_status}
 use Rattle.wf_service.specs.declared.refusal.Refusal.{Refusal}
 use Rattle.wf_service.specs.declared.refusal.Refusal.TheVariants as refusal
-use Rattle.wf_service.proofs.DeclinedWords as service
-use Rattle.wf_service.proofs.DeclinedWords.{calls_of_fault, has_status, none_failed, two_or_three}
+use Rattle.wf_service.proofs.Lemmas as service
+use Rattle.wf_service.proofs.Lemmas.{calls_of_fault, has_status, none_failed, two_or_three}
 use Rattle.wf_program.specs.declared.done.Done.{Done}
 use Rattle.wf_program.specs.declared.filed.FileJob.{FileJob}
 use Rattle.wf_program.specs.declared.filed.FileJob.TheVariants as filed

@@ -11,7 +11,7 @@ use Rattle.wf_simplex.proofs.Lemmas.{Has, all_of_has, flat_map-has, has-flat_map
 use Rattle.wf_counting.specs.Rules.{no_rule, rule_at}
 use Rattle.wf_trees.specs.Trees.{largest, new_name}
 use Rattle.wf_trees.specs.Tuples.{choices_of}
-use Rattle.wf_trees.proofs.Members.{from_each}
+use Rattle.wf_trees.proofs.Lemmas.{from_each}
 use Rattle.wf_refine.specs.AtHand.{IsAtHand, IsRuleAtHand, at_hand}
 use Rattle.wf_refine.specs.Limits.{tuples_made}
 use Rattle.wf_refine.specs.Near.{most_at_hand}

@@ -16,8 +16,7 @@ use Rattle.std.proofs.lemmas.List.Concat.{flat_map-cons}
 use Rattle.wf_model.specs.Lists.{below, has, in_order}
 use Rattle.wf_model.specs.Simplex.{processes_of}
 use Rattle.wf_model.specs.Task.{Tuple}
-use Rattle.wf_model.proofs.Ascending.{Ascends, has_in_order}
-use Rattle.wf_model.proofs.Basics.{below_next}
+use Rattle.wf_model.proofs.Lemmas.{Ascends, has_in_order, below_next}
 use Rattle.wf_simplex.proofs.Lemmas.{sorted-in_order}
 use Rattle.wf_simplex.specs.Order.{nat_cmp-Equal}
 use Rattle.wf_task.proofs.Lemmas.{has_from_order}

@@ -1,3 +1,4 @@
+pub mod Lemmas
 pub mod ForestSteps
 pub mod Ranks
 pub mod KeyLemmas

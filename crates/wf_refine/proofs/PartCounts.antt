@@ -2,7 +2,7 @@
 use Rattle.std.proofs.Common.{◌≡◌, ℕ, zero, suc, ◌+◌, ◌<◌, ◌≤◌, Bool, not, List, [], ◌∷◌, get_or, length, map, refl, sym, ap, ◌∙◌, subst, arith}
 use Rattle.std.specs.List.{list_any}
 use Rattle.std.proofs.lemmas.List.{get_or-map, length-map}
-use Rattle.wf_model.proofs.CanonicalSteps.{length_filter}
+use Rattle.wf_model.proofs.Lemmas.{length_filter}
 use Rattle.wf_model.specs.Task.{Tuple}
 use Rattle.wf_trees.specs.Parts.{parts}
 use Rattle.wf_refine.specs.Keys.{row_at}

@@ -12,12 +12,11 @@ use Rattle.std.proofs.lemmas.List.{drop_more, take_more_set}
 use Rattle.std.proofs.lemmas.List.Kept.{IsStrictlySortedBy-filter}
 use Rattle.wf_model.specs.Simplex.{Simplex, Vertex, is_face, is_nonempty, same_vertex, vertex_cmp}
 use Rattle.wf_model.specs.Task.{IsTaskSimplex, Tuple}
-use Rattle.wf_simplex.proofs.BoundedFaces.{Climbs, climbs}
-use Rattle.wf_simplex.proofs.Lemmas.{Has, filter-has, has-filter, same_in_order}
+use Rattle.wf_simplex.proofs.Lemmas.{Climbs, climbs, Has, filter-has, has-filter, same_in_order}
 use Rattle.wf_simplex.specs.Order.{nat_cmp-Equal, same_simplex-decides, vertex_cmp-total}
 use Rattle.wf_counting.specs.Signs.{keep}
 use Rattle.wf_trees.specs.Tuples.{is_part, mask_of}
-use Rattle.wf_trees.proofs.Members.{any_has, from_each, has_any, passes_each}
+use Rattle.wf_trees.proofs.Lemmas.{any_has, from_each, has_any, passes_each}
 
 -- ---- simplices in order
 

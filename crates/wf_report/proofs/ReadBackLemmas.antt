@@ -13,7 +13,7 @@ use Rattle.wf_report.proofs.BodyLemmas.{ended, front, front_by, front_is, items_
 use Rattle.wf_report.proofs.LineLemmas.{passed}
 use Rattle.wf_report.proofs.ReadLemmas.{number_by, number_is, number_step, number_at_line}
 use Rattle.wf_report.proofs.WrittenLemmas.{own}
-use Rattle.wf_model.proofs.Basics.{some_of}
+use Rattle.wf_model.proofs.Lemmas.{some_of}
 
 -- ---- numbers
 

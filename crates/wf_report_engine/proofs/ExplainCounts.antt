@@ -12,9 +12,8 @@ use Rattle.wf_run.specs.declared.fault.RunFault.TheVariants as run
 use Rattle.wf_run.specs.Run.{Judged, Next, by_result, failed_reads, failed_writes}
 use Rattle.wf_verify_engine.specs.Obstructions.{IsObstructionOf}
 use Rattle.wf_run.specs.Laws.{IsChecked}
-use Rattle.wf_run.proofs.Counts.{few}
-use Rattle.wf_run.proofs.SourceCounts.{IsReportCounted, both_counted, left_alone}
-use Rattle.wf_verify_engine.proofs.CheckCounts.{judged_report, verified}
+use Rattle.wf_run.proofs.Lemmas.{few, IsReportCounted, both_counted, left_alone}
+use Rattle.wf_verify_engine.proofs.Lemmas.{judged_report, verified}
 use Rattle.wf_report_engine.specs.Explaining.{AreExplained, Explains, ExplainsFor, ExplainsText, TellsObstruction}
 
 -- a result that tells no failed call

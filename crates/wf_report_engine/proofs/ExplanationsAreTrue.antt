@@ -12,7 +12,7 @@ use Rattle.wf_run.specs.Run.{Hands, IsTaskOf, Judged, Next, Reads}
 use Rattle.wf_run.specs.Texts.{text_of_report}
 use Rattle.wf_verify_engine.specs.Verify.{Checks}
 use Rattle.wf_run.specs.Given.{GaveTask}
-use Rattle.wf_run.proofs.GivenTask.{task_read}
+use Rattle.wf_run.proofs.Lemmas.{task_read}
 use Rattle.wf_report_engine.specs.Explaining.{AreExplained, ExplainsBoth, ExplainsFor, ExplainsText, ExplanationsAreTrue, TellsObstruction, ToldObstruction, ToldReport, body_explained}
 use Rattle.wf_report_engine.proofs.TrimmedIsTrue.{same_rounds, text_about, told}
 

@@ -8,7 +8,7 @@ use Rattle.wf_complex.specs.declared.fault.BuildFault.TheVariants as build
 use Rattle.wf_report.specs.Grammar.{IsInGrammar}
 use Rattle.wf_report.specs.declared.fault.CertFault.TheVariants as amiss
 use Rattle.wf_report.proofs.Lemmas.{written_read}
-use Rattle.wf_verify_engine.proofs.WrittenIsAccepted.{unrefused}
+use Rattle.wf_verify_engine.proofs.Lemmas.{unrefused}
 use Rattle.wf_verify_engine.specs.declared.outcome.Accepted.{Accepted}
 use Rattle.wf_run.specs.declared.fault.RunFault.{RunFault}
 use Rattle.wf_run.specs.declared.fault.RunFault.TheVariants as run

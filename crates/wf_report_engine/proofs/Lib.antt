@@ -1,3 +1,4 @@
+pub mod Lemmas
 pub mod SomeOfLists
 pub mod TrimmedTexts
 pub mod ShorterReports

@@ -11,9 +11,8 @@ use Rattle.wf_run.specs.Sources.{NextReads}
 use Rattle.wf_verify_engine.specs.Verify.{IsFaultOf, Judges}
 use Rattle.wf_run.specs.declared.fault.RunFault.{RunFault}
 use Rattle.wf_run.specs.declared.fault.RunFault.TheVariants as run
-use Rattle.wf_run.proofs.Counts.{beyond, few}
-use Rattle.wf_run.proofs.SourceCounts.{IsReportCounted, both_counted, left_alone}
-use Rattle.wf_verify_engine.proofs.CheckCounts.{judged_report}
+use Rattle.wf_run.proofs.Lemmas.{beyond, few, IsReportCounted, both_counted, left_alone}
+use Rattle.wf_verify_engine.proofs.Lemmas.{judged_report}
 use Rattle.wf_report_engine.specs.Lifting.{LiftsBody, LiftsFor, LiftsMap, Made, ReadsToLift, rounds_asked}
 use Rattle.wf_report_engine.specs.LiftingLaws.{LiftingIsCounted}
 

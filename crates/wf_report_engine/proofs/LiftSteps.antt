@@ -15,8 +15,8 @@ use Rattle.wf_run.specs.Texts.{text_of_report}
 use Rattle.wf_run.specs.Run.{answered}
 use Rattle.wf_verify_engine.specs.Verify.{Judges}
 use Rattle.wf_run.specs.declared.fault.RunFault.{RunFault}
-use Rattle.wf_run.proofs.RunsInPieces.{IsRefusal}
-use Rattle.wf_verify_engine.proofs.ModelsToReports.{own_rounds, passed}
+use Rattle.wf_run.proofs.Lemmas.{IsRefusal}
+use Rattle.wf_verify_engine.proofs.Lemmas.{own_rounds, passed}
 use Rattle.wf_report_engine.specs.Lifting.{LiftsBody, LiftsChecked, LiftsMap, Made, rounds_asked}
 
 -- a map has a value for each point

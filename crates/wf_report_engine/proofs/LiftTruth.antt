@@ -8,7 +8,7 @@ use Rattle.wf_io.specs.Seen.{Reading, Writing}
 use Rattle.wf_io.specs.Texts.{Wrote}
 use Rattle.wf_complex.specs.Protocol.{Built}
 use Rattle.wf_trim.specs.Lift.{lifted_by}
-use Rattle.wf_trim.proofs.Lifts.{lifts_by}
+use Rattle.wf_trim.proofs.Lemmas.{lifts_by}
 use Rattle.wf_run.specs.Given.{GaveTask}
 use Rattle.wf_verify_engine.specs.Headline.{GaveTruth}
 use Rattle.wf_run.specs.Run.{Hands, HasComplex, IsTaskOf, Next, Reads}
@@ -16,8 +16,8 @@ use Rattle.wf_run.specs.Sources.{NextReads}
 use Rattle.wf_run.specs.Texts.{text_of_report}
 use Rattle.wf_verify_engine.specs.Verify.{IsReportOf, Judges}
 use Rattle.wf_run.specs.declared.fault.RunFault.{RunFault}
-use Rattle.wf_verify_engine.proofs.WrittenIsAccepted.{map_text_accepted}
-use Rattle.wf_run.proofs.GivenTask.{task_read}
+use Rattle.wf_verify_engine.proofs.Lemmas.{map_text_accepted}
+use Rattle.wf_run.proofs.Lemmas.{task_read}
 use Rattle.wf_report_engine.proofs.ReadReports.{gave_report}
 use Rattle.wf_report_engine.specs.Lifting.{AsksLift, Lifts, LiftsBody, LiftsFor, LiftsMap, ReadsToLift, rounds_asked}
 use Rattle.wf_report_engine.specs.LiftingLaws.{LiftsAreAccepted, LiftsAreTrue}

@@ -4,7 +4,7 @@ use Rattle.wf_model.specs.Task.{Task}
 use Rattle.wf_model.specs.Report.{Report, report_of}
 use Rattle.wf_io.specs.Seen.{Reading}
 use Rattle.wf_io.specs.Texts.{Gave}
-use Rattle.wf_verify_engine.proofs.Headline.{written_as_read}
+use Rattle.wf_verify_engine.proofs.Lemmas.{written_as_read}
 use Rattle.wf_run.specs.Run.{Reads}
 use Rattle.wf_run.specs.Texts.{text_of_report}
 use Rattle.wf_verify_engine.specs.Verify.{IsFaultless, IsReportOf}

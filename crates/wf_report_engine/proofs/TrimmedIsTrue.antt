@@ -15,10 +15,10 @@ use Rattle.wf_run.specs.Texts.{text_of_report}
 use Rattle.wf_verify_engine.specs.Verify.{Checks, ChecksFor, IsFaultless, IsReportOf, IsVerifiedFor}
 use Rattle.wf_verify_engine.specs.Headline.{AreAsked}
 use Rattle.wf_run.specs.Given.{GaveTask}
-use Rattle.wf_run.proofs.GivenTask.{task_read}
+use Rattle.wf_run.proofs.Lemmas.{task_read}
 use Rattle.wf_report_engine.specs.Trimming.{AreMade, IsShortened}
 use Rattle.wf_report_engine.specs.Trimmed.{IsAcceptedText, IsGoodText, TrimmedReportsAreAccepted}
-use Rattle.wf_verify_engine.proofs.Headline.{about}
+use Rattle.wf_verify_engine.proofs.Lemmas.{about}
 use Rattle.wf_report_engine.proofs.TrimmedTexts.{no_longer, stays_within}
 use Rattle.wf_report_engine.proofs.FaultlessTexts.{accepts_text}
 

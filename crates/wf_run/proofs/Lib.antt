@@ -1,3 +1,4 @@
+pub mod Lemmas
 pub mod PointLists
 pub mod ToldLines
 pub mod RunsInPieces

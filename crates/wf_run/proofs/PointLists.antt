@@ -7,7 +7,7 @@ use Rattle.wf_model.specs.Points.{Appearance, points, first_appearances, last_vi
 use Rattle.wf_model.specs.Execution.{executions}
 use Rattle.wf_model.specs.Report.{line}
 use Rattle.wf_model.specs.ViewsText.{point_line, views_text}
-use Rattle.wf_model.proofs.Numbers.{appearances_points}
+use Rattle.wf_model.proofs.Lemmas.{appearances_points}
 use Rattle.wf_complex.specs.Protocol.{Built, IsProtocol}
 use Rattle.wf_run.specs.Views.{header_text, appearances_text}
 use Rattle.wf_run.specs.declared.views.PointsHeader.{PointsHeader}

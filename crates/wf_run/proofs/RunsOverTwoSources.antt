@@ -67,7 +67,7 @@ module _ (most : ℕ) (reads : ReadsAbout) (r : ℕ)
       record { taken = c.taken; failed = by_result failed_reads answer; failures = c.failures; reads = omega arith; writes = c.writes }
   task_counted other other' (Err e) answer (is, same) w = left_alone most other other' e answer is same w
 
-  pub counted : (task task' other other' : Reading) (sink sink' : Writing) (result : Result (Unit {0}) RunFault)
+  pub counted_over_two : (task task' other other' : Reading) (sink sink' : Writing) (result : Result (Unit {0}) RunFault)
       → Ran (AsksBoth reads r task task' other other') sink sink' result → IsChecked most task task' other other' sink sink' result
-  counted task task' other other' sink sink' result (answer, (t, given, next), h) =
+  counted_over_two task task' other other' sink sink' result (answer, (t, given, next), h) =
       both_counted most task task' other other' sink sink' t answer result given (task_counted other other' t answer next) h

@@ -14,7 +14,7 @@ use Rattle.wf_rup.specs.Seen.{Known, known_of}
 use Rattle.wf_rup.specs.Stored.{Stored, kept_of}
 use Rattle.wf_clause_store.specs.Literals.{has}
 use Rattle.wf_rup.proofs.LiteralLemmas.{literal_of-code_of}
-use Rattle.wf_clause_store.proofs.TrailLemmas.{same_test}
+use Rattle.wf_clause_store.proofs.Lemmas.{same_test}
 use Rattle.wf_rup.proofs.UnitLemmas.{Contains-image, Contains-of_image, image-at}
 
 -- ---- one clause less

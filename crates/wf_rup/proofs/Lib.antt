@@ -1,3 +1,4 @@
+pub mod Lemmas
 pub mod CodeLemmas
 pub mod LiteralLemmas
 pub mod KeptLemmas

@@ -13,7 +13,7 @@ use Rattle.wf_rup.specs.Rat.{IsKnownClause, IsRat, IsRedundant, resolvent, witho
 use Rattle.wf_rup.specs.Seen.{IsModelOf, Known}
 use Rattle.wf_rup.specs.Unit.{HasConflict, IsForcedBy, given, last}
 use Rattle.wf_rup.proofs.LiteralLemmas.{literal_of-code_of}
-use Rattle.wf_clause_store.proofs.TrailLemmas.{other_test, same_test}
+use Rattle.wf_clause_store.proofs.Lemmas.{other_test, same_test}
 use Rattle.wf_rup.proofs.UnitLemmas.{Contains-of_image}
 
 -- ---- literals

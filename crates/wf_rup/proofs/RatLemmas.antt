@@ -22,7 +22,7 @@ use Rattle.wf_rup.specs.Unit.{DoesNotFollow, FollowsByPropagation}
 use Rattle.wf_rup.proofs.DeletedLemmas.{has-contained}
 use Rattle.wf_rup.proofs.LiteralLemmas.{literal_of-code_of, model_of_known, model_of_stored, satisfies-codes}
 use Rattle.wf_rup.proofs.SettledLemmas.{any-at}
-use Rattle.wf_clause_store.proofs.TrailLemmas.{All-has_front, other_test, same_test}
+use Rattle.wf_clause_store.proofs.Lemmas.{All-has_front, other_test, same_test}
 use Rattle.wf_rup.proofs.UnitLemmas.{Contains-image, Contains-map, any-found, apart-not, code_of-negation, does-not-follow}
 
 -- ---- an assignment under which a literal holds

@@ -9,7 +9,7 @@ use Rattle.wf_rup.specs.Settled.{IsFalseOn, Stands, StandsOneOf, Stops, StopsBef
 use Rattle.wf_rup.specs.declared.settled.Standing.{Standing}
 use Rattle.std.proofs.lemmas.List.Elements.{All-push}
 use Rattle.wf_rup.specs.declared.settled.Standing.TheVariants.{Settled, Forces, Fails}
-use Rattle.wf_clause_store.proofs.TrailLemmas.{has-front, has-with, has-with_same}
+use Rattle.wf_clause_store.proofs.Lemmas.{has-front, has-with, has-with_same}
 
 abbrev pub open_one : Bool → ℕ
 open_one true = 0

@@ -14,7 +14,7 @@ use Rattle.wf_rup.specs.Seen.{IsModelOf, Known, known_of}
 use Rattle.wf_rup.specs.Stored.{Stored, kept_of}
 use Rattle.wf_rup.proofs.DeletedLemmas.{back-again}
 use Rattle.wf_rup.proofs.KeptLemmas.{kept_of-pushed}
-use Rattle.wf_clause_store.proofs.TrailLemmas.{has-front, has-with_same}
+use Rattle.wf_clause_store.proofs.Lemmas.{has-front, has-with_same}
 use Rattle.wf_rup.proofs.UnitLemmas.{Contains-image, Contains-map}
 
 -- a literal that was put on a trail is on all that extend it

@@ -13,7 +13,7 @@ use Rattle.wf_clause_store.specs.Literals.{has, opposite}
 use Rattle.wf_rup.specs.Seen.{Known, known_of}
 use Rattle.wf_rup.specs.Settled.{IsConsistent, IsSettled, Refuses}
 use Rattle.wf_rup.specs.Stored.{Stored}
-use Rattle.wf_clause_store.proofs.TrailLemmas.{All-has, has-behind, has-first}
+use Rattle.wf_clause_store.proofs.Lemmas.{All-has, has-behind, has-first}
 use Rattle.wf_rup.specs.Unit.{DoesNotFollow, HasConflict, IsForcedBy, given, last}
 
 -- ---- lists

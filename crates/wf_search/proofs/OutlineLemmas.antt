@@ -13,9 +13,7 @@ use Rattle.wf_model.specs.Closing.{closing, sweep}
 use Rattle.wf_model.specs.Laws.{IsBoxOf}
 use Rattle.wf_model.specs.Split.{is_open}
 use Rattle.wf_model.specs.Outline.{Item, written, left_out, box_left, closed_to, opened_at, opened, boxes_left_out, opened_if, opened_levels, filled, filled_up_to}
-use Rattle.wf_model.proofs.FilledOutlines.{boxes_append}
-use Rattle.wf_model.proofs.Headline.{each_append}
-use Rattle.wf_model.proofs.ClosedBoxes.{closed_branch}
+use Rattle.wf_model.proofs.Lemmas.{boxes_append, each_append, closed_branch}
 use Rattle.wf_lines.specs.Lines.{line_of}
 use Rattle.wf_lines.specs.declared.line.Line.{Line}
 use Rattle.wf_set.specs.Sets.{values_in}

@@ -3,9 +3,7 @@ use Rattle.std.proofs.Common.{◌≡◌, ℕ, zero, suc, ◌+◌, ◌<◌, ◌�
 use Rattle.std.specs.List.{AllByRecursion, range_with_len}
 use Rattle.std.proofs.lemmas.Bool.{cases_eq, cases_lt, false≢true, or_left, or_right, or_from}
 use Rattle.wf_model.specs.Lists.{has}
-use Rattle.wf_model.proofs.Ascending.{Ascends}
-use Rattle.wf_model.proofs.MapsAreSolutions.{weaker}
-use Rattle.wf_model.proofs.Headline.{always}
+use Rattle.wf_model.proofs.Lemmas.{Ascends, weaker, always}
 use Rattle.wf_set.specs.Sets.{holds, values_in}
 use Rattle.wf_set.proofs.SetLaws.{has-values_in, too_large}
 

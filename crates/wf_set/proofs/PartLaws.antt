@@ -10,13 +10,12 @@ use Rattle.std.proofs.lemmas.Nat.{shr_split, mod_below, one_shl, pow_below, ones
 use Rattle.std.proofs.lemmas.Nat.Bits.{bit_at_and, bit_at_not, bit_at-lt, bit_at-zero, bit_at-suc, bit_at_lowest, bit_at_cat_low, bit_at_cat_high, bit_at-trailing_zeros, same_from_bits_below, bit_at_or, bit_at-pow_same, bit_at-pow_other}
 use Rattle.std.proofs.lemmas.List.Elements.{All-nil, All-cons, All-filter, All-weaker, recursion_from_All}
 use Rattle.wf_model.specs.Lists.{below, has}
-use Rattle.wf_model.proofs.Ascending.{Ascends, ascends_filter}
+use Rattle.wf_model.proofs.Lemmas.{Ascends, ascends_filter, equal_turned}
 use Rattle.std.proofs.lemmas.List.FromFn.{get_or-range_with_len, length-range_with_len}
 use Rattle.std.proofs.lemmas.List.Folds.{list_any_at}
 use Rattle.std.proofs.lemmas.Map.Views.{any-filter_same}
 use Rattle.std.proofs.Math.Bool.{and-true}
 use Rattle.wf_set.specs.Parts.{part_holds, part_values}
-use Rattle.wf_model.proofs.Basics.{equal_turned}
 
 -- ---- the bits of a word
 

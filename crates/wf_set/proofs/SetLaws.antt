@@ -9,11 +9,10 @@ use Rattle.std.proofs.lemmas.List.Elements.{All-filter, All-weaker, filter-appen
 use Rattle.std.proofs.lemmas.List.Folds.{list_any_none}
 use Rattle.std.proofs.lemmas.Map.Views.{any-filter_same}
 use Rattle.wf_model.specs.Lists.{below, has}
-use Rattle.wf_model.proofs.Ascending.{Ascends, ascends_filter}
+use Rattle.wf_model.proofs.Lemmas.{Ascends, ascends_filter, and_turned, or_none, has-filter}
 use Rattle.wf_set.specs.Parts.{part_holds, part_values}
 use Rattle.wf_set.specs.Sets.{holds, values_in}
 use Rattle.wf_set.proofs.PartLaws.{by_two, part_holds-or, has-part_values, holds_nothing, in_below, in_run, run_agrees, run_ascends, run_of_none, values_of_nothing as values_of_no_part}
-use Rattle.wf_model.proofs.Basics.{and_turned, or_none, has-filter}
 
 -- ---- a set's words, one after another
 

@@ -2,7 +2,7 @@
 use Rattle.std.proofs.Common.{◌≡◌, ◌≤◌, Bool, true, false, List, [], ◌∷◌, length, map, filter, flat_map, cond, inl, inr, refl, sym, ap, ◌∙◌, subst, arith}
 use Rattle.std.specs.List.Sorted.{IsStrictlySortedBy}
 use Rattle.wf_model.specs.Simplex.{Simplex, is_nonempty, parts_of, faces_of, simplex_cmp, complex_of}
-use Rattle.wf_model.proofs.CanonicalSteps.{length_filter}
+use Rattle.wf_model.proofs.Lemmas.{length_filter}
 use Rattle.wf_simplex.specs.Order.{simplex_cmp-total, simplex_cmp-Equal}
 use Rattle.wf_simplex.proofs.Orders.{Has, has-append, has-append_left, has-append_right, has-in_order, in_order-has, sorted-in_order, same_in_order}
 

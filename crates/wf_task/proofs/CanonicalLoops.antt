@@ -15,7 +15,7 @@ use Rattle.wf_task.specs.Borders.{borders_if, borders_of, place_before}
 use Rattle.wf_task.specs.Canonical.{is_inner, facets, HasFewFacets, list_data, simplex_data, rule_data, keyed, task_data}
 use Rattle.wf_draft.specs.Shape.{rule_of}
 use Rattle.wf_task.specs.TaskSeen.{rules_seen, task_with_block}
-use Rattle.wf_model.proofs.CanonicalSteps.{length_filter}
+use Rattle.wf_model.proofs.Lemmas.{length_filter}
 use Rattle.wf_task.proofs.OneElementMore.{filter-passes, filter-fails}
 use Rattle.wf_task.proofs.Faceted.{inner-border, border-inner, length-complex, within-complex, removed-part}
 use Rattle.wf_task.proofs.Images.{nonempty-long, part-face}

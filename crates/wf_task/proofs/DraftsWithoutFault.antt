@@ -12,7 +12,7 @@ use Rattle.std.proofs.lemmas.List.Sums.{sum_by-cons, sum_by-le-sum_by}
 use Rattle.wf_model.specs.Lists.{has, in_order}
 use Rattle.wf_model.specs.Simplex.{Simplex, processes_of, values_of, is_nonempty, is_ascending, parts_of, simplex_cmp, complex_of}
 use Rattle.wf_model.specs.Task.{Task, Rule, Tuple, IsTask, IsRule, IsSimplexWithin, IsComplexWithin, IsFirstBlock, inputs}
-use Rattle.wf_model.proofs.Tasks.{on_processes, up_to}
+use Rattle.wf_model.proofs.Lemmas.{on_processes, up_to}
 use Rattle.wf_simplex.specs.Order.{same_simplex, same_simplex-decides, simplex_cmp-total, nat_cmp-Equal}
 use Rattle.wf_simplex.proofs.Lemmas.{Has, has-in_order, in_order-in_order, length-in_order, has_at_place, whole_is_part, filter-has, is_in_complex, complex_of-sorted, complex_of-complex_of, all_of_has, has_of_all, complex_within, length-within}
 use Rattle.std.proofs.lemmas.Bool.{and_parts, or_parts, not-false}

@@ -7,7 +7,7 @@ use Rattle.std.proofs.lemmas.List.Kept.{IsStrictlySortedBy-filter}
 use Rattle.wf_model.specs.Lists.{below}
 use Rattle.wf_model.specs.Simplex.{Simplex, Vertex, processes_of, same_vertex, is_face, is_nonempty, is_ascending, parts_of, faces_of, simplex_cmp, complex_of}
 use Rattle.wf_model.specs.Task.{IsSimplexWithin}
-use Rattle.wf_model.proofs.Ascending.{Ascends, ascends_from}
+use Rattle.wf_model.proofs.Lemmas.{Ascends, ascends_from, nonempty_length}
 use Rattle.wf_simplex.specs.Faces.{IsComplex}
 use Rattle.wf_simplex.specs.Order.{simplex_cmp-total}
 use Rattle.wf_simplex.proofs.Lemmas.{Has, has-append, length-in_order, begins, has-filter, filter-has, has-flat_map, flat_map-has, of_some_facet, is_in_complex, complex_of-sorted, part_of_part, length-faces_of, has_of_all, length-within, has-map, map-has}
@@ -17,7 +17,6 @@ use Rattle.wf_task.specs.Canonical.{is_inner, facets}
 use Rattle.wf_task.proofs.Facets.{length-part, whole-part, part-is_face, any-has, has-any}
 use Rattle.wf_task.proofs.ExtendedValues.{with_first, without_first, no_part}
 use Rattle.wf_task.proofs.Images.{nonempty-long, part-face, facet-in, complex_of-same}
-use Rattle.wf_model.proofs.WellFormed.{nonempty_length}
 
 -- ---- faces are parts
 

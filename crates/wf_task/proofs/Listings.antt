@@ -11,10 +11,8 @@ use Rattle.std.proofs.Math.Nat.{zero-mul, suc-mul, pow-zero, pow-succ', div-lt_i
 use Rattle.std.proofs.lemmas.List.{length-map, get_or-map, length-take-le}
 use Rattle.std.proofs.lemmas.List.Concat.{get_or-flat_map}
 use Rattle.wf_model.specs.Lists.{below, lists_of}
-use Rattle.wf_model.proofs.MapsAreSolutions.{weaker}
-use Rattle.wf_model.proofs.Headline.{each_append, each_map, each_flat, always}
+use Rattle.wf_model.proofs.Lemmas.{weaker, each_append, each_map, each_flat, always, nat_cmp-Less}
 use Rattle.wf_simplex.proofs.Lemmas.{Has, begins, has-flat_map, flat_map-has, map-has}
-use Rattle.wf_model.proofs.Basics.{nat_cmp-Less}
 
 -- ---- how many
 

@@ -17,8 +17,7 @@ use Rattle.serde_json.specs.View.{items_of}
 use Rattle.wf_model.specs.Lists.{in_order}
 use Rattle.wf_model.specs.Simplex.{Simplex, Vertex, processes_of, values_of, is_nonempty, is_ascending, simplex_cmp, complex_of}
 use Rattle.wf_model.specs.Task.{Task, Rule, Tuple, IsRule, IsSimplexWithin, IsComplexWithin, IsFirstBlock, largest_value, inputs}
-use Rattle.wf_model.proofs.CanonicalSteps.{length_filter}
-use Rattle.wf_model.proofs.Tasks.{inputs_within, outputs_within, inputs_are}
+use Rattle.wf_model.proofs.Lemmas.{length_filter, inputs_within, outputs_within, inputs_are, suc_not_zero, values_of_zip}
 use Rattle.wf_simplex.specs.Faces.{IsComplex}
 use Rattle.wf_simplex.specs.Order.{same_simplex, same_simplex-decides, simplex_cmp-total}
 use Rattle.wf_simplex.proofs.Lemmas.{Has, has-filter, complex_of-sorted, has_of_all, all_of_has, length-within, contains-has, map-has, has-map}
@@ -36,8 +35,6 @@ use Rattle.wf_task.proofs.Lengths.{HasShortParts, simplex-long, tuple-long as tu
 use Rattle.wf_task.proofs.Faceted.{complex_of-facets}
 use Rattle.wf_task.proofs.Facets.{any-has}
 use Rattle.wf_task.proofs.Listings.{each_has}
-use Rattle.wf_model.proofs.Basics.{suc_not_zero}
-use Rattle.wf_model.proofs.WellFormed.{values_of_zip}
 
 -- ---- reading the value
 

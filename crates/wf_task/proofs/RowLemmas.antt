@@ -14,13 +14,12 @@ use Rattle.smallvec.specs.SmallVec.{SmallVec}
 use Rattle.wf_model.specs.Lists.{has, in_order}
 use Rattle.wf_model.specs.Simplex.{Simplex, processes_of, values_of, is_nonempty, is_ascending}
 use Rattle.wf_model.specs.Task.{Tuple, IsSimplexWithin}
-use Rattle.wf_model.proofs.Ascending.{Ascends, ascends_from}
+use Rattle.wf_model.proofs.Lemmas.{Ascends, ascends_from, or_none}
 use Rattle.wf_simplex.specs.Entries.{value_at}
 use Rattle.wf_simplex.specs.Order.{nat_cmp-Equal, slice_cmp-Equal}
 use Rattle.wf_simplex.proofs.Lemmas.{in_order-dedup}
 use Rattle.wf_set.specs.Sets.{values_in}
 use Rattle.wf_task.specs.Mask.{HasMore, IsMaskOf}
-use Rattle.wf_model.proofs.Basics.{or_none}
 
 -- ---- rows
 

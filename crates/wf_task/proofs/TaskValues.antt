@@ -4,7 +4,7 @@ use Rattle.std.specs.Ordering.{nat_cmp}
 use Rattle.wf_model.specs.Lists.{has, in_order}
 use Rattle.wf_model.specs.Simplex.{values_of}
 use Rattle.wf_model.specs.Task.{Task, values}
-use Rattle.wf_model.proofs.Ascending.{ascends_from, has_in_order, in_order_ascends}
+use Rattle.wf_model.proofs.Lemmas.{ascends_from, has_in_order, in_order_ascends}
 use Rattle.wf_set.specs.Sets.{values_in}
 use Rattle.wf_set.proofs.Lemmas.{values_listed}
 use Rattle.wf_task.specs.Mask.{IsMaskOf}

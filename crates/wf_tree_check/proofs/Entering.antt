@@ -11,7 +11,7 @@ use Rattle.wf_refine.specs.AtHand.{IsAtHand, at_hand}
 use Rattle.wf_refine.specs.Limits.{split_fault}
 use Rattle.wf_refine.specs.declared.fault.RefineFault.{RefineFault}
 use Rattle.wf_refine.specs.declared.fault.RefineFault.TheVariants as refine
-use Rattle.wf_refine.proofs.CaseSteps.{length-rules_seen}
+use Rattle.wf_refine.proofs.Lemmas.{length-rules_seen}
 use Rattle.wf_cover.specs.Faults.{cover_fault}
 use Rattle.wf_cover.specs.Limits.{sheets_fault}
 use Rattle.wf_cover.specs.declared.cover.CoverFault.{CoverFault}

@@ -9,7 +9,7 @@ use Rattle.wf_model.specs.Report.{line, same_text}
 use Rattle.wf_trees.specs.Balance.{Multiplier}
 use Rattle.wf_trees.specs.Trees.{Move}
 use Rattle.wf_report.specs.Reading.{lacks}
-use Rattle.wf_report.proofs.ReadBackLemmas.{when_true}
+use Rattle.wf_report.proofs.Lemmas.{when_true}
 use Rattle.wf_tree_text.specs.Laws.{IsMoveWithin, IsMultiplierWithin}
 use Rattle.wf_tree_text.specs.Text.{TextLine, are_others, are_sheets, balance_at, balance_of, case_at, case_of, cover_at, cover_of, goes_over, is_cover, line_of_numbers, line_text, move_at, move_of, multiplier_at, multiplier_of, name_of, numbers_of, split_at, split_of}
 

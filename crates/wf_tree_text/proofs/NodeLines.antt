@@ -5,7 +5,7 @@ use Rattle.wf_model.specs.Report.{Reading, line, lines_of, same_text}
 use Rattle.wf_trees.specs.Trees.{Node}
 use Rattle.wf_report.specs.Reading.{lacks}
 use Rattle.wf_report.specs.Steps.{words}
-use Rattle.wf_report.proofs.ReadLemmas.{last_piece, lines_cut, no_words, not_ended, one_word, same_ended, some_line, words_cut, words_ended}
+use Rattle.wf_report.proofs.Lemmas.{last_piece, lines_cut, no_words, not_ended, one_word, same_ended, some_line, words_cut, words_ended}
 use Rattle.wf_tree_text.specs.Text.{TextLine, end_at, line_of_numbers, line_of_words, nodes_from, numbers_of_words, with_line}
 use Rattle.wf_tree_text.specs.Steps.{next_in}
 

@@ -5,7 +5,7 @@ use Rattle.wf_model.specs.Limits.{most_number}
 use Rattle.wf_model.specs.Report.{number_upto}
 use Rattle.wf_report.specs.Reading.{lacks}
 use Rattle.wf_report.specs.Steps.{words}
-use Rattle.wf_report.proofs.ReadLemmas.{one_word, words_cut}
+use Rattle.wf_report.proofs.Lemmas.{one_word, words_cut}
 use Rattle.wf_tree_text.specs.Text.{numbers_of_words}
 
 -- the number of a word in front of others

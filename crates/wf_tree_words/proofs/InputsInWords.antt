@@ -5,7 +5,7 @@ use Rattle.std.proofs.lemmas.List.{get_or_past, length-map}
 use Rattle.wf_model.specs.Simplex.{Simplex}
 use Rattle.wf_model.specs.Task.{Rule, Task, inputs}
 use Rattle.wf_counting.specs.Rules.{no_rule, rule_at}
-use Rattle.wf_balance.proofs.Inputs.{input_is}
+use Rattle.wf_balance.proofs.Lemmas.{input_is}
 
 pub input_there : (t : Task) (simplices : List Simplex) (n : ℕ) (s : Simplex) → simplices ≡ inputs t → true ≡ nat_lt n (length simplices) → s ≡ get_or simplices n s → s ≡ (rule_at t n).input
 input_there t simplices n s are low is =

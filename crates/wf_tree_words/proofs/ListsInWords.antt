@@ -6,7 +6,7 @@ use Rattle.std.specs.Prelude.{if◌then◌else◌}
 use Rattle.std.proofs.Math.ListN.{drop_of_length-le}
 use Rattle.std.proofs.lemmas.List.{drop_more, get_or-map, length-map}
 use Rattle.wf_model.specs.Lists.{below}
-use Rattle.wf_model.proofs.Basics.{length-below}
+use Rattle.wf_model.proofs.Lemmas.{length-below}
 use Rattle.wf_tree_words.specs.Lists.{list_text, others_text}
 use Rattle.wf_tree_words.specs.Places.{before_at, separator, start_text}
 use Rattle.wf_tree_words.specs.Words.{indent_text, next_line}

@@ -8,7 +8,7 @@ use Rattle.std.proofs.lemmas.List.Elements.{All-append}
 use Rattle.wf_model.specs.Lists.{below}
 use Rattle.wf_model.specs.Simplex.{is_nonempty}
 use Rattle.wf_model.specs.Task.{Tuple}
-use Rattle.wf_model.proofs.Basics.{below_next, length-below}
+use Rattle.wf_model.proofs.Lemmas.{below_next, length-below}
 use Rattle.wf_trees.specs.Splits.{Splitting, with_names}
 use Rattle.wf_tree_words.specs.Calls.{AreInside, IsRenamed, call_seen, calls_seen, splitting_of}
 use Rattle.wf_tree_words.specs.declared.split.Call as code_call

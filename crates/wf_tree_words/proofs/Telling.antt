@@ -15,8 +15,8 @@ use Rattle.wf_trees.specs.Trees.{Move, Node, balance_node, by_sheets, case_node,
 use Rattle.wf_refine.specs.AtHand.{IsAtHand, at_hand}
 use Rattle.wf_refine.specs.Limits.{split_fault}
 use Rattle.wf_refine.specs.declared.fault.RefineFault.{RefineFault}
-use Rattle.wf_refine.proofs.CaseSteps.{length-rules_seen, rule_here}
-use Rattle.wf_balance.proofs.Inputs.{input_is, input_same}
+use Rattle.wf_refine.proofs.Lemmas.{length-rules_seen, rule_here}
+use Rattle.wf_balance.proofs.Lemmas.{input_is, input_same}
 use Rattle.wf_cover.specs.Faults.{cover_fault}
 use Rattle.wf_cover.specs.Limits.{sheets_fault}
 use Rattle.wf_cover.specs.declared.cover.CoverFault.{CoverFault}

@@ -10,15 +10,10 @@ use Rattle.wf_model.specs.Simplex.{Simplex, is_ascending, is_nonempty, processes
 use Rattle.wf_model.specs.View.{View}
 use Rattle.wf_model.specs.Task.{Rule, Task, Tuple, first_block, inputs}
 use Rattle.wf_model.specs.DecisionMap.{HasNoDecisionMap}
-use Rattle.wf_model.proofs.Headline.{each_append, each_map}
+use Rattle.wf_model.proofs.Lemmas.{each_append, each_map}
 use Rattle.wf_counting.specs.Rules.{rule_at, same_numbers}
 use Rattle.wf_counting.specs.Signs.{same_sign, total}
-use Rattle.wf_counting.proofs.Faces.{listed_rule}
-use Rattle.wf_counting.proofs.LastViews.{long_between}
-use Rattle.wf_counting.proofs.Faces.{on_each_face}
-use Rattle.wf_counting.proofs.Remainders.{taken_away}
-use Rattle.wf_counting.proofs.Lists.{Between, contained, each}
-use Rattle.wf_counting.proofs.Sums.{total_append}
+use Rattle.wf_counting.proofs.Lemmas.{listed_rule, long_between, on_each_face, taken_away, Between, contained, each, total_append}
 use Rattle.wf_trees.proofs.Members.{Has, any_has, contained_has, contains, from_each, map_has, of_has}
 use Rattle.wf_trees.specs.Alike.{are_alike}
 use Rattle.wf_trees.specs.Balance.{IsBalance, IsMultiplier, Multiplier, counts_nothing, counts_with, counts_without, input_of, weight_with, weight_without}

@@ -11,7 +11,7 @@ use Rattle.wf_model.specs.Task.{Rule, Task, Tuple, first_block}
 use Rattle.wf_model.specs.Points.{class}
 use Rattle.wf_model.specs.DecisionMap.{HasNoDecisionMap, IsDecisionMap}
 use Rattle.wf_counting.specs.Rules.{same_numbers}
-use Rattle.wf_counting.proofs.Words.{numbers_same}
+use Rattle.wf_counting.proofs.Lemmas.{numbers_same}
 use Rattle.wf_trees.specs.Alike.{are_alike}
 use Rattle.wf_trees.specs.Cases.{components, in_case, is_step, tuples_in_case}
 use Rattle.wf_trees.specs.Stars.{DifferAtOne, runs, view_after}

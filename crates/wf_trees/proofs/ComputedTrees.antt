@@ -6,9 +6,7 @@ use Rattle.std.proofs.lemmas.List.Elements.{All-from_recursion}
 use Rattle.wf_model.specs.Task.{Rule, Task, Tuple, first_block}
 use Rattle.wf_model.specs.DecisionMap.{HasNoDecisionMap}
 use Rattle.wf_counting.specs.Rules.{rule_at}
-use Rattle.wf_counting.proofs.Faces.{listed_rule}
-use Rattle.wf_counting.proofs.ComputedTests.{is_task, passes_task}
-use Rattle.wf_counting.proofs.Lists.{each, each_passes}
+use Rattle.wf_counting.proofs.Lemmas.{listed_rule, is_task, passes_task, each, each_passes}
 use Rattle.wf_trees.specs.Balance.{IsBalance, IsMultiplier, Multiplier, counts_nothing, input_of, weight_of_vertices}
 use Rattle.wf_trees.specs.Cases.{components, in_case}
 use Rattle.wf_trees.specs.Covers.{Covering, IsCovering, covered, is_flat}

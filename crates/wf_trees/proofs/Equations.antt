@@ -11,8 +11,7 @@ use Rattle.wf_model.specs.Points.{class}
 use Rattle.wf_model.specs.Task.{Task, Tuple}
 use Rattle.wf_counting.specs.Rules.{same_numbers}
 use Rattle.wf_counting.specs.Signs.{is_even, keep, same_sign}
-use Rattle.wf_counting.proofs.Rounds.{marginal, nobody, over}
-use Rattle.wf_counting.proofs.Sums.{keep_map, total_same}
+use Rattle.wf_counting.proofs.Lemmas.{marginal, nobody, over, keep_map, total_same}
 use Rattle.wf_trees.specs.Balance.{Multiplier}
 use Rattle.wf_trees.proofs.Alike.{decided_on}
 use Rattle.wf_trees.proofs.Sides.{Part, executions_count}

@@ -7,9 +7,8 @@ use Rattle.std.proofs.lemmas.List.Elements.{recursion_from_All}
 use Rattle.wf_model.specs.Limits.{most_processes}
 use Rattle.wf_model.specs.Simplex.{is_ascending, is_nonempty, is_simplex, processes_of}
 use Rattle.wf_model.specs.Task.{IsComplexOn, IsSimplexOn, IsTask, Rule, Task, Tuple, first_block, inputs}
-use Rattle.wf_model.proofs.Headline.{each_of_map}
-use Rattle.wf_counting.proofs.LastViews.{long_between, processes_ascend}
-use Rattle.wf_counting.proofs.Lists.{Between, contained}
+use Rattle.wf_model.proofs.Lemmas.{each_of_map}
+use Rattle.wf_counting.proofs.Lemmas.{long_between, processes_ascend, Between, contained}
 use Rattle.wf_trees.specs.Refined.{allowing, with_tuples}
 
 -- I is a complex of few processes

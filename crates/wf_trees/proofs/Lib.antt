@@ -1,3 +1,4 @@
+pub mod Lemmas
 pub mod Members
 pub mod Maps
 pub mod AloneViews

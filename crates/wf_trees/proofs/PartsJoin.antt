@@ -4,7 +4,7 @@ use Rattle.std.specs.List.{AllByRecursion, list_any}
 use Rattle.std.proofs.lemmas.Bool.{and_parts, cases_Bool, eqb-true, false≢true}
 use Rattle.wf_model.specs.Task.{Tuple}
 use Rattle.wf_counting.specs.Rules.{same_numbers}
-use Rattle.wf_counting.proofs.Words.{numbers_same}
+use Rattle.wf_counting.proofs.Lemmas.{numbers_same}
 use Rattle.wf_trees.specs.Parts.{parts}
 use Rattle.wf_trees.specs.Splits.{name_beside}
 use Rattle.wf_trees.specs.Tuples.{has_tuple}

@@ -12,10 +12,9 @@ use Rattle.wf_model.specs.Word.{Word, words}
 use Rattle.wf_model.specs.View.{View, base, base_views, process_of, round}
 use Rattle.wf_model.specs.Task.{Rule, Task, Tuple}
 use Rattle.wf_model.specs.DecisionMap.{HasNoDecisionMap, IsDecisionMap}
-use Rattle.wf_model.proofs.Basics.{by_place}
+use Rattle.wf_model.proofs.Lemmas.{by_place}
 use Rattle.wf_counting.specs.Signs.{keep}
-use Rattle.wf_counting.proofs.Lists.{each_passes, map_same_on}
-use Rattle.wf_counting.proofs.Sums.{keep_map}
+use Rattle.wf_counting.proofs.Lemmas.{each_passes, map_same_on, keep_map}
 use Rattle.wf_trees.specs.Stars.{DifferAtOne, runs, view_after}
 use Rattle.wf_trees.specs.Tuples.{agree_elsewhere, choices_of, is_kept, is_part, mask_of, value_at}
 use Rattle.wf_trees.specs.Splits.{IsSplitting, Splitting, by_stars, choices, hang_together, names_at, names_of, split, stars, tuples_on_face, tuples_split, with_names}

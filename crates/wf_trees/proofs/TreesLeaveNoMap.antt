@@ -3,7 +3,7 @@ use Rattle.std.proofs.Common.{◌≡◌, ℕ, List, [], ◌∷◌, inl, inr, sub
 use Rattle.wf_model.specs.Task.{IsTask, Rule, Task, Tuple, first_block}
 use Rattle.wf_model.specs.DecisionMap.{HasNoDecisionMap}
 use Rattle.wf_counting.specs.Rules.{rule_at}
-use Rattle.wf_counting.proofs.Faces.{listed_rule}
+use Rattle.wf_counting.proofs.Lemmas.{listed_rule}
 use Rattle.wf_trees.specs.Cases.{components, in_case, tuples_in_case}
 use Rattle.wf_trees.specs.Covers.{covered, tuples_covered}
 use Rattle.wf_trees.specs.Splits.{by_stars, split, tuples_split}

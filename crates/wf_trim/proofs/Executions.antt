@@ -7,11 +7,10 @@ use Rattle.wf_model.specs.Lists.{lists_of}
 use Rattle.wf_model.specs.Word.{Word, words}
 use Rattle.wf_model.specs.Task.{Task, Rule, inputs, first_block}
 use Rattle.wf_model.specs.Execution.{Execution, executions_on, executions}
-use Rattle.wf_model.proofs.RefutingLines.{each_at}
-use Rattle.wf_model.proofs.WellFormed.{each_of_lists, words_long}
+use Rattle.wf_model.proofs.Lemmas.{each_at, each_of_lists, words_long}
 use Rattle.wf_complex.specs.Layout.{turns}
 use Rattle.wf_complex.specs.Protocol.{simplices_of}
-use Rattle.wf_complex.proofs.Executions.{length-lists_of}
+use Rattle.wf_complex.proofs.Lemmas.{length-lists_of}
 use Rattle.wf_trim.specs.declared.stretch.Stretch.{Stretch}
 use Rattle.wf_trim.specs.Stretches.{stretches, earlier}
 use Rattle.wf_trim.proofs.Places.{begun, begins, MadeOf, made_of, made_there, of_mapped, in_mapped}

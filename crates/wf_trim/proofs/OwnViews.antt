@@ -7,9 +7,8 @@ use Rattle.wf_model.specs.Word.{Word}
 use Rattle.wf_model.specs.Task.{Task}
 use Rattle.wf_model.specs.View.{View, base, seen, Views, views_of, process_of, visible, round, occurs, occurs_in, renamed, renamed_each, rank, normal}
 use Rattle.wf_model.specs.Points.{class}
-use Rattle.wf_model.proofs.Ascending.{Ascends}
+use Rattle.wf_model.proofs.Lemmas.{Ascends, renamed_as_it_is, renamed_each_as_it_is, normal_within, ranks_apart}
 use Rattle.wf_trim.specs.Lift.{own_among, own_before, point_before}
-use Rattle.wf_model.proofs.Ranks.{renamed_as_it_is, renamed_each_as_it_is, normal_within, ranks_apart}
 
 -- ---- members
 

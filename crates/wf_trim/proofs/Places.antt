@@ -3,8 +3,8 @@ use Rattle.std.proofs.Common.{◌≡◌, ℕ, zero, suc, ◌+◌, ◌*◌, ◌<�
 use Rattle.std.specs.List.{AllByRecursion, enumerate_from}
 use Rattle.std.proofs.lemmas.List.{length-map}
 use Rattle.std.proofs.lemmas.Option.{slice_get-map, slice_get_within}
-use Rattle.wf_model.proofs.MapsAreSolutions.{weaker}
-use Rattle.wf_complex.proofs.Bounds.{suc_times}
+use Rattle.wf_model.proofs.Lemmas.{weaker}
+use Rattle.wf_complex.proofs.Lemmas.{suc_times}
 
 module _ {X : Type 0} where
   pub get_left : (xs ys : List X) (i : ℕ) → i < length xs → slice_get (xs ++ ys) i ≡ slice_get xs i

@@ -5,7 +5,7 @@ use Rattle.std.proofs.lemmas.List.{drop_more}
 use Rattle.wf_model.specs.Simplex.{Simplex}
 use Rattle.wf_model.specs.Word.{words}
 use Rattle.wf_complex.specs.Layout.{turns, execution_total}
-use Rattle.wf_complex.proofs.LayoutLemmas.{words_some, turns_here}
+use Rattle.wf_complex.proofs.Lemmas.{words_some, turns_here}
 use Rattle.wf_trim.specs.declared.stretch.Stretch.{Stretch}
 use Rattle.wf_trim.specs.Stretches.{stretches}
 

@@ -16,8 +16,7 @@ use Rattle.wf_verify_engine.specs.Verify.{IsAccepted}
 use Rattle.wf_verify_engine.specs.Certificates.{ChecksCertificate, ChecksCertificateFor, JudgesObstruction, VerifiesCertificate, as_verified}
 use Rattle.wf_verify_engine.specs.Obstructions.{IsObstructionOf}
 use Rattle.wf_run.specs.Laws.{IsChecked}
-use Rattle.wf_run.proofs.Counts.{few}
-use Rattle.wf_run.proofs.SourceCounts.{IsReportCounted, both_counted, left_alone}
+use Rattle.wf_run.proofs.Lemmas.{few, IsReportCounted, both_counted, left_alone}
 use Rattle.wf_verify_engine.proofs.CheckCounts.{judged_report, verified}
 
 -- a result that tells no failed call

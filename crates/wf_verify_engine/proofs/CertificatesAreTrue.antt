@@ -17,7 +17,7 @@ use Rattle.wf_verify_engine.specs.Certificates.{ChecksBoth, ChecksCertificate, C
 use Rattle.wf_run.specs.Given.{GaveTask}
 use Rattle.wf_verify_engine.specs.Headline.{ObstructionsAreTrue}
 use Rattle.wf_verify_engine.specs.Laws.{AcceptedReportsAreVerified}
-use Rattle.wf_run.proofs.GivenTask.{task_read}
+use Rattle.wf_run.proofs.Lemmas.{task_read}
 
 -- what is accepted, and the line that says so
 accepted_in : Result (Verified × List ℕ) RunFault → Verified

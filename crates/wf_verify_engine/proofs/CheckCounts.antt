@@ -12,8 +12,7 @@ use Rattle.wf_run.specs.declared.fault.RunFault.TheVariants as run
 use Rattle.wf_run.specs.Run.{Next, Judged, Ran, failed_reads, failed_writes, by_result}
 use Rattle.wf_run.specs.Laws.{IsChecked}
 use Rattle.wf_verify_engine.specs.Verify.{IsReportOf, IsVerified, IsVerifiedFor, Checks, ChecksAfter, ChecksBoth, ReadsUpTo}
-use Rattle.wf_run.proofs.Counts.{beyond, few}
-use Rattle.wf_run.proofs.SourceCounts.{IsReportCounted, left_alone, both_counted}
+use Rattle.wf_run.proofs.Lemmas.{beyond, few, IsReportCounted, left_alone, both_counted}
 
 -- where no text is judged to be a read or a write that failed, reading fails what the text fails
 module _ (IsReport : List ℕ → Result Report RunFault → Type 0) (no_read : (text : List ℕ) → IsReport text (Err run.Read) → ⊥) (no_write : (text : List ℕ) → IsReport text (Err run.Write) → ⊥) where

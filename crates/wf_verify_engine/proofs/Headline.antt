@@ -3,7 +3,7 @@ use Rattle.std.proofs.Common.{◌≡◌, ℕ, List, Option, None, Some, Result, 
 use Rattle.wf_model.specs.Limits.{most_bytes}
 use Rattle.wf_model.specs.Task.{Task}
 use Rattle.wf_model.specs.Report.{Report, report_about, report_of, report_text}
-use Rattle.wf_model.proofs.WholeReports.{numbers}
+use Rattle.wf_model.proofs.Lemmas.{numbers}
 use Rattle.wf_io.specs.Seen.{Reading, Writing}
 use Rattle.wf_io.specs.Texts.{Gave, ReadsText, Wrote}
 use Rattle.wf_io.specs.declared.source.ReadFault.{ReadFault}
@@ -14,7 +14,7 @@ use Rattle.wf_run.specs.Texts.{text_of_report}
 use Rattle.wf_verify_engine.specs.Verify.{AreDecisions, ChecksAfter, ChecksBoth, IsAccepted, IsFaultless, IsReportOf, IsVerified, IsVerifiedFor, ReadsUpTo}
 use Rattle.wf_verify_engine.specs.Headline.{AcceptancesAreTrue, AreAsked, DecisionsAreTrue, GaveTruth}
 use Rattle.wf_run.specs.Given.{GaveTask}
-use Rattle.wf_run.proofs.GivenTask.{task_read}
+use Rattle.wf_run.proofs.Lemmas.{task_read}
 
 -- a report without a fault is about the task and its own rounds
 pub about : (t : Task) (r : Report) → IsFaultless t r → r ≡ report_about t r.rounds r.body

@@ -13,9 +13,7 @@ use Rattle.wf_lrat.specs.declared.verdict.HintVerdict.{HintVerdict}
 use Rattle.wf_lrat.specs.declared.verdict.HintVerdict.TheVariants as verdict
 use Rattle.wf_lrat.specs.declared.proof.HintFault.{HintFault}
 use Rattle.wf_lrat.specs.declared.proof.HintFault.TheVariants as hints
-use Rattle.wf_lrat.proofs.FedLemmas.{refuted_outcome}
-use Rattle.wf_lrat.proofs.ModelLemmas.{no_model_before, satisfiable_on, satisfiable_same}
-use Rattle.wf_lrat.proofs.PieceLemmas.{outcome-pieces, resumed}
+use Rattle.wf_lrat.proofs.Lemmas.{refuted_outcome, no_model_before, satisfiable_on, satisfiable_same, outcome-pieces, resumed}
 use Rattle.wf_verify_engine.specs.Hints.{AreAcceptedHints, AreRefusedHints, IsFaultOfHints, IsRefuted, closed, outcome_so_far, whole_outcome}
 use Rattle.wf_verify_engine.specs.Readers.{HasReadHints}
 use Rattle.wf_verify_engine.specs.Proofs.{IsFaultFor}

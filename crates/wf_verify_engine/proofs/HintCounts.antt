@@ -9,7 +9,7 @@ use Rattle.wf_run.specs.Laws.{IsChecked}
 use Rattle.wf_verify_engine.specs.Headline.{HintedRefutationsAreTrue}
 use Rattle.wf_verify_engine.specs.Hints.{AreRefusedHints, IsRefuted, ReadsAsHints, ReadsHints, RefutesByHints, whole_outcome}
 use Rattle.wf_verify_engine.specs.Proofs.{IsAcceptedNone, most_proof_bytes}
-use Rattle.wf_run.proofs.RunsOverTwoSources.{IsReadCounted, counted, done}
+use Rattle.wf_run.proofs.Lemmas.{IsReadCounted, counted_over_two, done}
 use Rattle.wf_verify_engine.proofs.ProofCounts.{bytes_counted}
 
 -- whatever the clauses are, and what holds where the proof is accepted
@@ -20,7 +20,7 @@ hints_counted posed holds old new answer read =
 
 pub proved_by_hints : (r : ℕ) (task task' proof proof' : Reading) (sink sink' : Writing) (result : Result (Unit {0}) RunFault)
     → RefutesByHints r task task' proof proof' sink sink' result → IsChecked most_proof_bytes task task' proof proof' sink sink' result
-proved_by_hints r = counted most_proof_bytes ReadsHints r (λ t. hints_counted (ledger_of (question t r)) (IsAcceptedNone t r))
+proved_by_hints r = counted_over_two most_proof_bytes ReadsHints r (λ t. hints_counted (ledger_of (question t r)) (IsAcceptedNone t r))
 
 pub hinted_refutations_true : HintedRefutationsAreTrue
 hinted_refutations_true r task task' proof proof' sink sink' ran =

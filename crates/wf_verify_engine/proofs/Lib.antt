@@ -1,3 +1,4 @@
+pub mod Lemmas
 pub mod CheckCounts
 pub mod ProofBytes
 pub mod ProofsToLines

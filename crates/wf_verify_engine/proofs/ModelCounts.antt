@@ -12,9 +12,8 @@ use Rattle.wf_run.specs.declared.fault.RunFault.TheVariants as run
 use Rattle.wf_run.specs.Run.{Judged, Next, failed_reads, failed_writes, by_result}
 use Rattle.wf_run.specs.Laws.{IsChecked}
 use Rattle.wf_verify_engine.specs.Models.{IsMapOf, IsReportText, Models, ReadsMap, ReportsMap}
-use Rattle.wf_run.proofs.Counts.{few}
+use Rattle.wf_run.proofs.Lemmas.{few, IsReadCounted, counted_over_two}
 use Rattle.wf_verify_engine.proofs.CheckCounts.{checks_alone}
-use Rattle.wf_run.proofs.RunsOverTwoSources.{IsReadCounted, counted}
 
 module _ (t : Task) (r : ℕ) where
   judged_map : (text : Result (List ℕ) ReadFault) (m : Result (List ℕ) RunFault) → Judged (IsMapOf t r) text m → (io.failed_reads text ≡ by_result failed_reads m) × (by_result failed_writes m ≡ 0)
@@ -44,4 +43,4 @@ module _ (t : Task) (r : ℕ) where
 
 pub modelled : (r : ℕ) (task task' output output' : Reading) (sink sink' : Writing) (result : Result (Unit {0}) RunFault)
     → Models r task task' output output' sink sink' result → IsChecked most_bytes task task' output output' sink sink' result
-modelled r = counted most_bytes ReadsMap r (λ t. output_counted t r)
+modelled r = counted_over_two most_bytes ReadsMap r (λ t. output_counted t r)

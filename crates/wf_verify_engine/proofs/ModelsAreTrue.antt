@@ -13,7 +13,7 @@ use Rattle.wf_run.specs.Given.{GaveTask}
 use Rattle.wf_verify_engine.specs.Headline.{ModelsAreTrue}
 use Rattle.wf_verify_engine.specs.Laws.{ModelsAreAccepted}
 use Rattle.wf_verify_engine.proofs.WrittenIsAccepted.{map_text_accepted}
-use Rattle.wf_run.proofs.RunsOverTwoSources.{done}
+use Rattle.wf_run.proofs.Lemmas.{done}
 
 -- a map without a fault, whose report was written
 record IsReported (r : ℕ) (task task' : Reading) (sink sink' : Writing) : Type 0 where

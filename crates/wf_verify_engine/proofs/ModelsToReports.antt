@@ -7,7 +7,7 @@ use Rattle.wf_model.specs.Points.{points}
 use Rattle.wf_model.specs.Problem.{problem_of}
 use Rattle.wf_model.specs.Report.{a_map, report_about}
 use Rattle.wf_model.specs.Check.{report_fault}
-use Rattle.wf_model.proofs.Basics.{length-below}
+use Rattle.wf_model.proofs.Lemmas.{length-below}
 use Rattle.wf_formula.specs.Encoding.{least_true}
 use Rattle.wf_formula.specs.SolverText.{stated}
 use Rattle.wf_io.specs.Seen.{Reading}
@@ -22,7 +22,7 @@ use Rattle.wf_verify_engine.specs.Models.{IsMapOf, ReportsMap}
 use Rattle.wf_run.specs.Run.{HasComplex, Reads, answered}
 use Rattle.wf_verify_engine.specs.Verify.{IsFaultOf}
 use Rattle.wf_verify_engine.proofs.WrittenReports.{points_few}
-use Rattle.wf_run.proofs.RunsInPieces.{IsRefusal}
+use Rattle.wf_run.proofs.Lemmas.{IsRefusal}
 
 -- a map has a value for each point
 map_long : (t : Task) (r : ℕ) (old new : Reading) (m : List ℕ) → Reads (IsMapOf t r) old new (Ok m) → length m ≡ length (points t r)

@@ -7,8 +7,7 @@ use Rattle.wf_rup.specs.Seen.{HasNoModel, Known}
 use Rattle.wf_rup.specs.Whole.{IsFaultOfProof, IsRefusedBy}
 use Rattle.wf_rup.specs.declared.proof.ProofFault.{ProofFault}
 use Rattle.wf_rup.specs.declared.proof.ProofFault.TheVariants.{NotALiteral, NoSuchVariable, NotImplied, NoContradiction, Binary, OutOfMemory}
-use Rattle.wf_rup.proofs.ProofPieces.{fed_more, nothing_fed, refusal_at_end, refusal_fed}
-use Rattle.wf_rup.proofs.RatLemmas.{no-model-before, satisfiable-on, satisfiable-same}
+use Rattle.wf_rup.proofs.Lemmas.{fed_more, nothing_fed, refusal_at_end, refusal_fed, no-model-before, satisfiable-on, satisfiable-same}
 use Rattle.wf_run.specs.Faults.{of_proof}
 use Rattle.wf_verify_engine.specs.Proofs.{IsFaultFor, IsRefusedProof}
 use Rattle.wf_verify_engine.specs.Readers.{HasReadProof}

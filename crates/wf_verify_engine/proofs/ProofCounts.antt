@@ -8,7 +8,7 @@ use Rattle.wf_run.specs.declared.fault.RunFault.TheVariants as run
 use Rattle.wf_run.specs.Run.{failed_writes, by_result}
 use Rattle.wf_run.specs.Laws.{IsChecked}
 use Rattle.wf_verify_engine.specs.Proofs.{IsAcceptedNone, IsOfBytes, IsRefusedProof, ReadsBytes, ReadsProof, ReadsProofOf, Refutes, most_proof_bytes}
-use Rattle.wf_run.proofs.RunsOverTwoSources.{IsReadCounted, counted}
+use Rattle.wf_run.proofs.Lemmas.{IsReadCounted, counted_over_two}
 
 module _ {X : Type 0} (accepts : List ℕ → X → Type 0) (refuses : List ℕ → Option (List ℕ) → RunFault → Type 0) (unrefused : (given : List ℕ) (left : Option (List ℕ)) → refuses given left run.Write → ⊥) where
   few : (given : List ℕ) (left : Option (List ℕ)) (result : Result X RunFault) → IsOfBytes accepts refuses given left result → length given ≤ most_proof_bytes + 1
@@ -38,4 +38,4 @@ proof_counted f holds old new answer (posed, models, read) =
 
 pub proved : (r : ℕ) (task task' proof proof' : Reading) (sink sink' : Writing) (result : Result (Unit {0}) RunFault)
     → Refutes r task task' proof proof' sink sink' result → IsChecked most_proof_bytes task task' proof proof' sink sink' result
-proved r = counted most_proof_bytes ReadsProof r (λ t. proof_counted (question t r) (IsAcceptedNone t r))
+proved r = counted_over_two most_proof_bytes ReadsProof r (λ t. proof_counted (question t r) (IsAcceptedNone t r))

@@ -8,7 +8,7 @@ use Rattle.wf_io.specs.Texts.{Gave}
 use Rattle.wf_run.specs.Run.{answered}
 use Rattle.wf_run.specs.declared.fault.RunFault.{RunFault}
 use Rattle.wf_run.specs.declared.fault.RunFault.TheVariants as run
-use Rattle.wf_run.proofs.RunsInPieces.{IsRefusal}
+use Rattle.wf_run.proofs.Lemmas.{IsRefusal}
 use Rattle.wf_verify_engine.specs.Proofs.{IsFaultFor, IsOfBytes, ReadsBytes, most_proof_bytes}
 
 -- a source gave these bytes, so many

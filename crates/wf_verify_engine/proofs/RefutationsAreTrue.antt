@@ -3,7 +3,7 @@ use Rattle.std.proofs.Common.{subst}
 use Rattle.wf_io.specs.Texts.{Wrote}
 use Rattle.wf_verify_engine.specs.Proofs.{ReadsProof}
 use Rattle.wf_verify_engine.specs.Headline.{RefutationsAreTrue}
-use Rattle.wf_run.proofs.RunsOverTwoSources.{done}
+use Rattle.wf_run.proofs.Lemmas.{done}
 
 pub refutations_true : RefutationsAreTrue
 refutations_true r task task' proof proof' sink sink' ran =

@@ -5,7 +5,7 @@ use Rattle.wf_model.specs.View.{View}
 use Rattle.wf_model.specs.DecisionMap.{IsDecisionMap, listed}
 use Rattle.wf_model.specs.Report.{Report, Body, a_map, report_of, report_text, report_about}
 use Rattle.wf_model.specs.Check.{Refusal, report_fault}
-use Rattle.wf_model.proofs.WholeReports.{map_accepted}
+use Rattle.wf_model.proofs.Lemmas.{map_accepted}
 use Rattle.wf_model.specs.Limits.{most_bytes}
 use Rattle.wf_complex.specs.declared.fault.BuildFault.TheVariants as build
 use Rattle.wf_report.specs.Grammar.{IsInGrammar}

@@ -9,10 +9,10 @@ use Rattle.wf_io.specs.Texts.{Gave}
 use Rattle.wf_rup.specs.Kept.{IsKept}
 use Rattle.wf_rup.specs.Posed.{IsPosed}
 use Rattle.wf_rup.specs.Seen.{HasNoModel, Known}
-use Rattle.wf_rup.proofs.PosedLemmas.{some_itself}
+use Rattle.wf_rup.proofs.Lemmas.{some_itself}
 use Rattle.wf_lrat.specs.Ledger.{Ledger, ledger_of}
 use Rattle.wf_lrat.specs.Models.{HasNoModel as NoModel}
-use Rattle.wf_lrat.proofs.ModelLemmas.{refutes_formula}
+use Rattle.wf_lrat.proofs.Lemmas.{refutes_formula}
 use Rattle.wf_run.specs.declared.fault.RunFault.{RunFault}
 use Rattle.wf_run.specs.declared.fault.RunFault.TheVariants.{OutOfMemory, Read, TooLong}
 use Rattle.wf_verify_engine.specs.Hints.{AreAcceptedHints, AreRefusedHints, IsRefuted, ReadsAsHints, whole_outcome}

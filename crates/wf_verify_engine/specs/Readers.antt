@@ -7,7 +7,7 @@ use Rattle.wf_lrat.specs.Ledger.{Ledger}
 use Rattle.wf_lrat.specs.Models as hints
 use Rattle.wf_rup.specs.Rat as proofs
 use Rattle.wf_rup.specs.Seen.{Known}
-use Rattle.wf_rup.proofs.ProofPieces.{IsFed}
+use Rattle.wf_rup.proofs.Lemmas.{IsFed}
 use Rattle.wf_verify_engine.specs.Hints.{outcome_so_far}
 
 -- what was read of a clausal proof: what is known has a model if what was known before these bytes

@@ -1,3 +1,4 @@
+pub mod Lemmas
 pub mod AddedOptions
 pub mod ParsedWords
 pub mod MatchGetters

@@ -1,4 +1,4 @@
-use Rattle.wf_words.proofs.AddedOptions.{taken}
+use Rattle.wf_words.proofs.Lemmas.{taken}
 use Rattle.wf_args.proofs.command.cnf_command.Goals as goal
 
 pub returns : goal.returns

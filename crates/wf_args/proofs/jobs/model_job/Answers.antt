@@ -1,5 +1,5 @@
 use Rattle.wf_args.specs.declared.Job.TheVariants as job
-use Rattle.wf_words.proofs.ParsedWords.{on_file_for}
+use Rattle.wf_words.proofs.Lemmas.{on_file_for}
 use Rattle.wf_args.proofs.jobs.model_job.Goals as goal
 
 pub returns-in_ok-from_str-in-Some-Some-clause-asked : goal.returns-in_ok-from_str-in-Some-Some-clause-asked

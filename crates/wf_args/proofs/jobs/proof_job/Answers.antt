@@ -4,7 +4,7 @@ use Rattle.wf_args.specs.declared.Job.TheVariants as job
 use Rattle.wf_words.specs.Asked.{IsJob}
 use Rattle.wf_words.specs.Given.{has_flag}
 use Rattle.wf_args.specs.Asked.{branch_of, proof_asked}
-use Rattle.wf_words.proofs.ParsedWords.{on_file_for}
+use Rattle.wf_words.proofs.Lemmas.{on_file_for}
 use Rattle.wf_args.proofs.jobs.proof_job.Goals as goal
 
 pub returns-in_ok-from_str-in-Some-Some-clause-asked : goal.returns-in_ok-from_str-in-Some-Some-clause-asked

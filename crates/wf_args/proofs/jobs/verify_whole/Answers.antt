@@ -4,7 +4,7 @@ use Rattle.wf_args.specs.declared.Job.TheVariants as job
 use Rattle.wf_words.specs.Asked.{IsJob}
 use Rattle.wf_words.specs.Given.{rounds_of}
 use Rattle.wf_args.specs.Asked.{verify_whole}
-use Rattle.wf_words.proofs.ParsedWords.{on_file}
+use Rattle.wf_words.proofs.Lemmas.{on_file}
 use Rattle.wf_args.proofs.jobs.verify_whole.Goals as goal
 
 pub returns-in_ok-from_str-in-Some-clause-asked : goal.returns-in_ok-from_str-in-Some-clause-asked

@@ -1,4 +1,4 @@
-use Rattle.wf_io.proofs.FailedCalls.{failed, none_given}
+use Rattle.wf_io.proofs.Lemmas.{failed, none_given}
 use Rattle.wf_argument.proofs.parts.put_split.Goals as goal
 
 pub returns-in_err-list_values-clause-text : goal.returns-in_err-list_values-clause-text

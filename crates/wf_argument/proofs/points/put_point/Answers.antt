@@ -3,7 +3,7 @@ use Rattle.wf_model.specs.PointsText.{view_text}
 use Rattle.wf_model.specs.View.{base}
 use Rattle.wf_complex.specs.Views.{view_at}
 use Rattle.wf_argument.proofs.Usage.{point_line, same_got}
-use Rattle.wf_io.proofs.FailedCalls.{failed}
+use Rattle.wf_io.proofs.Lemmas.{failed}
 use Rattle.wf_argument.proofs.points.put_point.Goals as goal
 
 pub returns : goal.returns

@@ -1,6 +1,6 @@
 use Rattle.std.proofs.Common.{◌≡◌, ◌≤◌, ◌||◌, Bool, true, false, length, refl, sym, ap, ◌∙◌, arith}
 use Rattle.wf_model.specs.Lists.{has}
-use Rattle.wf_model.proofs.Tuples.{has_at_past}
+use Rattle.wf_model.proofs.Lemmas.{has_at_past}
 use Rattle.wf_set.specs.Sets.{values_in}
 use Rattle.wf_argument.proofs.reasons.with_value.Goals as goal
 

@@ -1,5 +1,5 @@
 use Rattle.std.proofs.Common.{◌++◌, string_bytes, ap, ◌∙◌}
-use Rattle.wf_io.proofs.FailedCalls.{failed}
+use Rattle.wf_io.proofs.Lemmas.{failed}
 use Rattle.wf_argument_words.specs.Text.{rest_text}
 use Rattle.wf_argument.proofs.TextParts.{step_line}
 use Rattle.wf_argument.proofs.steps.put_step.Goals as goal

@@ -3,7 +3,7 @@ use Rattle.std.proofs.lemmas.Option.{slice_get_within}
 use Rattle.std.proofs.lemmas.Result.{on_ok_weaker}
 use Rattle.std.proofs.lemmas.List.{length-map}
 use Rattle.wf_model.specs.Task.{Rule}
-use Rattle.wf_simplex.proofs.Places.{place_by_number}
+use Rattle.wf_simplex.proofs.Lemmas.{place_by_number}
 use Rattle.wf_complex.proofs.Lemmas.{rule_inside}
 use Rattle.wf_argument.specs.State.{after_taking}
 use Rattle.wf_argument_words.specs.Subject.{executions_in, problem_in}

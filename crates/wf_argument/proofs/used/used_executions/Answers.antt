@@ -1,7 +1,7 @@
 use Rattle.std.proofs.Common.{length, arith}
 use Rattle.wf_argument.specs.Text.{is_in}
 use Rattle.wf_argument.proofs.Usage.{marks_all}
-use Rattle.wf_io.proofs.FailedCalls.{none_given}
+use Rattle.wf_io.proofs.Lemmas.{none_given}
 use Rattle.wf_argument.proofs.used.used_executions.Goals as goal
 
 pub returns : goal.returns

@@ -1,7 +1,7 @@
 use Rattle.std.proofs.Common.{length, arith}
 use Rattle.wf_argument.specs.Used.{is_named}
 use Rattle.wf_argument.proofs.Usage.{marks_all}
-use Rattle.wf_io.proofs.FailedCalls.{none_given}
+use Rattle.wf_io.proofs.Lemmas.{none_given}
 use Rattle.wf_argument.proofs.used.used_points.Goals as goal
 
 pub returns : goal.returns

@@ -1,9 +1,7 @@
 use Rattle.std.proofs.Common.{get_or, sym, ap, ◌∙◌}
 use Rattle.wf_model.specs.Simplex.{values_of}
 use Rattle.wf_simplex.specs.Entries.{value_at}
-use Rattle.wf_task.proofs.CanonicalLoops.{pair_at}
-use Rattle.wf_task.proofs.EntrySlots.{inner}
-use Rattle.wf_task.proofs.RowLemmas.{value_there}
+use Rattle.wf_task.proofs.Lemmas.{pair_at, inner, value_there}
 use Rattle.wf_argument_words.specs.Text.{named}
 use Rattle.wf_argument_words.proofs.ExecutionPlaces.{rank_at}
 use Rattle.wf_argument_words.proofs.executions.participant.Goals as goal

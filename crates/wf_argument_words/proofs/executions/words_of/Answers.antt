@@ -1,7 +1,7 @@
 use Rattle.std.proofs.Common.{◌<◌, length, sym, ap, ◌∙◌, arith}
 use Rattle.std.proofs.lemmas.List.{take_all}
 use Rattle.wf_model.specs.Word.{words}
-use Rattle.wf_complex.proofs.WalkLemmas.{length_first, next_at}
+use Rattle.wf_complex.proofs.Lemmas.{length_first, next_at}
 use Rattle.wf_argument_words.proofs.ExecutionPlaces.{one_more_word}
 use Rattle.wf_argument_words.proofs.executions.words_of.Goals as goal
 

@@ -1,5 +1,5 @@
 use Rattle.std.proofs.Common.{◌∷◌, [], sym, ◌∙◌, arith}
-use Rattle.wf_io.proofs.PagePieces.{went_on, stopped, last_put}
+use Rattle.wf_io.proofs.Lemmas.{went_on, stopped, last_put}
 use Rattle.wf_argument_words.proofs.Pieces.{block_closed, block_left, block_opened, first_failed, first_put, next_process}
 use Rattle.wf_argument_words.proofs.listed.put_block.Goals as goal
 

@@ -1,5 +1,5 @@
 use Rattle.std.proofs.Common.{drop, false}
-use Rattle.wf_io.proofs.PagePieces.{IsPut}
+use Rattle.wf_io.proofs.Lemmas.{IsPut}
 use Rattle.wf_argument_words.specs.Text.{block_text, participant_text}
 use Rattle.wf_argument_words.proofs.Pieces.{block_left}
 use Rattle.wf_argument_words.proofs.listed.put_block.Given as goal

@@ -1,5 +1,5 @@
 use Rattle.std.proofs.Common.{◌++◌, ◌∷◌, [], codes, flat_map, refl, arith}
-use Rattle.wf_io.proofs.PagePieces.{went_on, stopped, last_put}
+use Rattle.wf_io.proofs.Lemmas.{went_on, stopped, last_put}
 use Rattle.wf_argument_words.specs.Listing.{spaced}
 use Rattle.wf_argument_words.proofs.Pieces.{first_failed, first_put, next_in, none_in}
 use Rattle.wf_argument_words.proofs.listed.put_end.Goals as goal

@@ -1,5 +1,5 @@
 use Rattle.std.proofs.Common.{◌++◌, codes, drop, flat_map}
-use Rattle.wf_io.proofs.PagePieces.{IsPut}
+use Rattle.wf_io.proofs.Lemmas.{IsPut}
 use Rattle.wf_argument_words.specs.Listing.{spaced}
 use Rattle.wf_argument_words.proofs.listed.put_end.Given as goal
 

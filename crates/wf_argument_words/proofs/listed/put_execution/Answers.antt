@@ -1,5 +1,5 @@
 use Rattle.std.proofs.Common.{◌≡◌, ◌<◌, ◌++◌, codes, decimal, flat_map, length, map, slice_get, refl, sym, ap, ◌∙◌, arith}
-use Rattle.wf_io.proofs.PagePieces.{went_on, stopped, last_put}
+use Rattle.wf_io.proofs.Lemmas.{went_on, stopped, last_put}
 use Rattle.wf_model.specs.Execution.{executions}
 use Rattle.wf_model.specs.Problem.{problem_of, constraint_at}
 use Rattle.wf_complex.proofs.Lemmas.{scope_is}

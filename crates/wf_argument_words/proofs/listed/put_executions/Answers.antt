@@ -1,5 +1,5 @@
 use Rattle.std.proofs.Common.{ℕ, List, ◌+◌, ◌<◌, ◌≤◌, flat_map, length, sym, subst, arith}
-use Rattle.wf_io.proofs.PagePieces.{IsPut, begun, went_on, stopped, all_put, can_go_on}
+use Rattle.wf_io.proofs.Lemmas.{IsPut, begun, went_on, stopped, all_put, can_go_on}
 use Rattle.wf_model.specs.Execution.{executions}
 use Rattle.wf_model.specs.Problem.{problem_of}
 use Rattle.wf_argument_words.specs.Listing.{execution_line, executions_text}

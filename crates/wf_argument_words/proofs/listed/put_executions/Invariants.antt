@@ -1,5 +1,5 @@
 use Rattle.std.proofs.Common.{flat_map, length}
-use Rattle.wf_io.proofs.PagePieces.{IsPut}
+use Rattle.wf_io.proofs.Lemmas.{IsPut}
 use Rattle.wf_model.specs.Execution.{executions}
 use Rattle.wf_model.specs.Problem.{problem_of}
 use Rattle.wf_argument_words.specs.Listing.{execution_line, executions_text}

@@ -1,5 +1,5 @@
 use Rattle.std.proofs.Common.{ℕ, List, ◌+◌, ◌++◌, ◌<◌, ◌≤◌, flat_map, length, sym, ap, ◌∙◌, subst, arith, false}
-use Rattle.wf_io.proofs.PagePieces.{IsPut, begun, went_on, stopped, all_put}
+use Rattle.wf_io.proofs.Lemmas.{IsPut, begun, went_on, stopped, all_put}
 use Rattle.wf_argument_words.specs.Text.{block_of, block_text, participant_text, word_text}
 use Rattle.wf_argument_words.proofs.Pieces.{all_numbers, next_number, no_number, numbers_left}
 use Rattle.wf_argument_words.proofs.listed.put_word.Goals as goal

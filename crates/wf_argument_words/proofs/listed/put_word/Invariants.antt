@@ -1,5 +1,5 @@
 use Rattle.std.proofs.Common.{flat_map, length, false}
-use Rattle.wf_io.proofs.PagePieces.{IsPut}
+use Rattle.wf_io.proofs.Lemmas.{IsPut}
 use Rattle.wf_argument_words.specs.Text.{block_of, block_text, participant_text, word_text}
 use Rattle.wf_argument_words.proofs.Pieces.{numbers_left}
 use Rattle.wf_argument_words.proofs.listed.put_word.Given as goal

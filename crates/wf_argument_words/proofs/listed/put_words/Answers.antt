@@ -1,5 +1,5 @@
 use Rattle.std.proofs.Common.{[], ◌+◌, ◌/◌, ◌%◌, ◌++◌, false, length, sym, ap, ◌∙◌, arith}
-use Rattle.wf_io.proofs.PagePieces.{stopped, all_put}
+use Rattle.wf_io.proofs.Lemmas.{stopped, all_put}
 use Rattle.wf_argument_words.specs.Text.{participant_text, plain_names, word_text}
 use Rattle.wf_argument_words.specs.Table.{break_text}
 use Rattle.wf_argument_words.proofs.ExecutionPlaces.{another, read_at}

@@ -1,5 +1,5 @@
 use Rattle.std.proofs.Common.{[], sym, append-nil, refl}
-use Rattle.wf_io.proofs.PagePieces.{went_on, left_off, passed_on}
+use Rattle.wf_io.proofs.Lemmas.{went_on, left_off, passed_on}
 use Rattle.wf_argument_words.specs.Listing.{executions_text}
 use Rattle.wf_argument_words.proofs.Pieces.{started}
 use Rattle.wf_argument_words.proofs.listed.write_executions.Goals as goal

@@ -1,4 +1,4 @@
-use Rattle.wf_io.proofs.FailedCalls.{failed}
+use Rattle.wf_io.proofs.Lemmas.{failed}
 use Rattle.wf_argument_words.proofs.words.put_row.Goals as goal
 
 pub returns-in_err-write : goal.returns-in_err-write

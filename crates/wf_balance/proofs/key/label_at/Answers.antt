@@ -1,8 +1,7 @@
 use Rattle.std.proofs.Common.{get_or, sym, ap, ap₂, ◌∙◌}
 use Rattle.wf_model.specs.Simplex.{values_of}
 use Rattle.wf_simplex.specs.Entries.{value_at}
-use Rattle.wf_task.proofs.EntrySlots.{inner}
-use Rattle.wf_task.proofs.RowLemmas.{value_there}
+use Rattle.wf_task.proofs.Lemmas.{inner, value_there}
 use Rattle.wf_balance.specs.Keys.{label}
 use Rattle.wf_balance.proofs.Digits.{label_there}
 use Rattle.wf_balance.proofs.key.label_at.Goals as goal

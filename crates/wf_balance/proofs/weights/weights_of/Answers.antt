@@ -2,7 +2,7 @@ use Rattle.std.proofs.Common.{◌≡◌, ℕ, ◌+◌, ◌%◌, ◌<◌, ◌==�
 use Rattle.std.specs.BTreeMap.{get}
 use Rattle.std.specs.Ordering.{nat_cmp}
 use Rattle.std.proofs.lemmas.List.Elements.{All-from_recursion}
-use Rattle.wf_model.proofs.Headline.{each_map}
+use Rattle.wf_model.proofs.Lemmas.{each_map}
 use Rattle.wf_trees.specs.Balance.{Multiplier}
 use Rattle.wf_balance.proofs.Inputs.{input_is, listed_inside}
 use Rattle.wf_balance.specs.declared.multiplier.Multiplier as code

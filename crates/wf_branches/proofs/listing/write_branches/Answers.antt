@@ -2,7 +2,7 @@ use Rattle.std.proofs.Common.{◌++◌, [], ap, ◌∙◌, string_bytes, codes, 
 use Rattle.std.specs.List.{enumerate_from}
 use Rattle.wf_model.specs.Outline.{boxes_left_out}
 use Rattle.wf_model.specs.Report.{line}
-use Rattle.wf_engine.proofs.AnswersOfSearches.{and_more}
+use Rattle.wf_engine.proofs.Lemmas.{and_more}
 use Rattle.wf_branches.specs.Listing.{entries_text, header_text}
 use Rattle.wf_branches.proofs.Lines.{whole_text}
 use Rattle.wf_branches.proofs.listing.write_branches.Goals as goal

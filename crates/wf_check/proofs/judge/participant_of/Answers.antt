@@ -4,7 +4,7 @@ use Rattle.wf_model.specs.Check.{removal}
 use Rattle.std.proofs.lemmas.List.{get_or_default, length-map}
 use Rattle.wf_model.specs.Task.{Rule}
 use Rattle.wf_complex.proofs.Lemmas.{known_points, rule_inside}
-use Rattle.wf_simplex.proofs.Places.{place_by_number}
+use Rattle.wf_simplex.proofs.Lemmas.{place_by_number}
 use Rattle.wf_check.proofs.ExecutionLemmas.{execution_by_number}
 use Rattle.wf_check.proofs.PlaceLemmas.{by_support, no_place, place_inside, rule_by_number}
 use Rattle.wf_check.proofs.judge.participant_of.Goals as goal

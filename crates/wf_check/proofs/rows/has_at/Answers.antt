@@ -1,6 +1,6 @@
 use Rattle.std.proofs.Common.{◌∙◌, sym}
 use Rattle.std.proofs.lemmas.Bool.{le-ltb}
-use Rattle.wf_model.proofs.Tuples.{has_at_past, has_at_place}
+use Rattle.wf_model.proofs.Lemmas.{has_at_past, has_at_place}
 use Rattle.wf_check.proofs.rows.has_at.Goals as goal
 
 pub returns-then-place-values : goal.returns-then-place-values

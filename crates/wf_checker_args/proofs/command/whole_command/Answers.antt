@@ -2,7 +2,7 @@ use Rattle.std.proofs.Common.{ap, codes, true, ◌≡◌, ◌∙◌}
 use Rattle.std.proofs.lemmas.Result.{IfOk-weaker}
 use Rattle.clap.specs.Simple.{app_of, app_of_fields, new_app, new_shape, on_top}
 use Rattle.wf_words.specs.Building.{IsLeaf}
-use Rattle.wf_words.proofs.AddedOptions.{taken}
+use Rattle.wf_words.proofs.Lemmas.{taken}
 use Rattle.wf_checker_args.specs.CommandLine.{command_line}
 use Rattle.wf_checker_args.proofs.command.whole_command.Goals as goal
 

@@ -4,7 +4,7 @@ use Rattle.wf_set.specs.Sets.{values_in}
 use Rattle.wf_clauses.specs.Formula.{neg}
 use Rattle.wf_formula.specs.Encoding.{variable}
 use Rattle.wf_formula.specs.Dimacs.{literal_text}
-use Rattle.wf_io.proofs.PagePieces.{went_on, stopped, last_put}
+use Rattle.wf_io.proofs.Lemmas.{went_on, stopped, last_put}
 use Rattle.wf_cnf.specs.Clauses.{denied_at}
 use Rattle.wf_cnf.proofs.TextLemmas.{entry_at}
 use Rattle.wf_cnf.proofs.PutLemmas.{next_pair, none_after}

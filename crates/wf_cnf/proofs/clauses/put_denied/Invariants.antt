@@ -1,6 +1,6 @@
 use Rattle.std.proofs.Common.{◌++◌, ◌∷◌, [], flat_map, drop}
 use Rattle.wf_set.specs.Sets.{values_in}
-use Rattle.wf_io.proofs.PagePieces.{IsPut}
+use Rattle.wf_io.proofs.Lemmas.{IsPut}
 use Rattle.wf_formula.specs.Dimacs.{literal_text, clause_text}
 use Rattle.wf_cnf.specs.Patterns.{pattern_seen}
 use Rattle.wf_cnf.specs.Clauses.{denied_at}

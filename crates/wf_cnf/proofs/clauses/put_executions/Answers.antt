@@ -1,7 +1,7 @@
 use Rattle.std.proofs.Common.{All, subst, ◌≡◌, ◌+◌, ◌<◌, ◌≤◌, ◌++◌, map, flat_map, length, arith, ◌∙◌, ap, sym}
 use Rattle.wf_set.specs.Sets.{values_in}
 use Rattle.wf_formula.specs.Dimacs.{clause_text}
-use Rattle.wf_io.proofs.PagePieces.{went_on, stopped, all_put}
+use Rattle.wf_io.proofs.Lemmas.{went_on, stopped, all_put}
 use Rattle.wf_cnf.specs.Patterns.{patterns_seen}
 use Rattle.wf_cnf.specs.Clauses.{AreFew, HasPoints, clauses_at, denied_text, patterns_in, points_in}
 use Rattle.wf_cnf.proofs.TextLemmas.{pattern_there}

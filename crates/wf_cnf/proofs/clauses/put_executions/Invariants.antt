@@ -1,6 +1,6 @@
 use Rattle.std.proofs.Common.{map, flat_map, length}
 use Rattle.wf_set.specs.Sets.{values_in}
-use Rattle.wf_io.proofs.PagePieces.{IsPut}
+use Rattle.wf_io.proofs.Lemmas.{IsPut}
 use Rattle.wf_formula.specs.Dimacs.{clause_text}
 use Rattle.wf_cnf.specs.Patterns.{patterns_seen}
 use Rattle.wf_cnf.specs.Clauses.{clauses_at, executions_text}

@@ -2,7 +2,7 @@ use Rattle.std.proofs.Common.{◌<◌, map, length, arith, ap, sym, ◌∙◌, s
 use Rattle.std.proofs.lemmas.List.{get_or-map, length-map}
 use Rattle.wf_set.specs.Sets.{values_in}
 use Rattle.wf_formula.specs.Dimacs.{clause_text}
-use Rattle.wf_io.proofs.PagePieces.{went_on, stopped}
+use Rattle.wf_io.proofs.Lemmas.{went_on, stopped}
 use Rattle.wf_cnf.specs.Patterns.{pattern_seen}
 use Rattle.wf_cnf.specs.Clauses.{HasPoints, denied_at}
 use Rattle.wf_cnf.proofs.PutLemmas.{next_seen}

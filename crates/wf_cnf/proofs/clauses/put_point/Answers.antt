@@ -3,7 +3,7 @@ use Rattle.wf_set.specs.Sets.{values_in}
 use Rattle.wf_clauses.specs.Formula.{pos}
 use Rattle.wf_formula.specs.Encoding.{variable, at_least_one}
 use Rattle.wf_formula.specs.Dimacs.{literal_text, clause_text}
-use Rattle.wf_io.proofs.PagePieces.{went_on, stopped, last_put}
+use Rattle.wf_io.proofs.Lemmas.{went_on, stopped, last_put}
 use Rattle.wf_cnf.proofs.clauses.put_point.Goals as goal
 
 -- the text of the literals of these values, and the end of the clause

@@ -1,6 +1,6 @@
 use Rattle.std.proofs.Common.{◌++◌, ◌∷◌, [], map, flat_map, length}
 use Rattle.wf_set.specs.Sets.{values_in}
-use Rattle.wf_io.proofs.PagePieces.{IsPut}
+use Rattle.wf_io.proofs.Lemmas.{IsPut}
 use Rattle.wf_clauses.specs.Formula.{pos}
 use Rattle.wf_formula.specs.Encoding.{variable, at_least_one}
 use Rattle.wf_formula.specs.Dimacs.{literal_text, clause_text}

@@ -1,7 +1,7 @@
 use Rattle.wf_set.specs.Sets.{values_in}
 use Rattle.wf_formula.specs.Encoding.{at_least_one}
 use Rattle.wf_formula.specs.Dimacs.{clause_text}
-use Rattle.wf_io.proofs.PagePieces.{went_on, stopped}
+use Rattle.wf_io.proofs.Lemmas.{went_on, stopped}
 use Rattle.wf_cnf.proofs.PutLemmas.{next_of}
 use Rattle.wf_cnf.proofs.clauses.put_points.Goals as goal
 

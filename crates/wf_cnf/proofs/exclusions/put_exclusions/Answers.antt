@@ -3,7 +3,7 @@ use Rattle.std.proofs.lemmas.List.{length-map}
 use Rattle.wf_set.specs.Sets.{values_in}
 use Rattle.wf_formula.specs.Branches.{ruled_out}
 use Rattle.wf_formula.specs.Dimacs.{clause_text}
-use Rattle.wf_io.proofs.PagePieces.{stopped, went_on}
+use Rattle.wf_io.proofs.Lemmas.{stopped, went_on}
 use Rattle.wf_cnf.specs.Exclusions.{exclusions_at}
 use Rattle.wf_cnf.proofs.PutLemmas.{between_numbers, next_list_of}
 use Rattle.wf_cnf.proofs.exclusions.put_exclusions.Goals as goal

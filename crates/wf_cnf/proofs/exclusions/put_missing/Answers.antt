@@ -2,7 +2,7 @@ use Rattle.std.proofs.Common.{map, flat_map, ap}
 use Rattle.wf_set.specs.Sets.{values_in}
 use Rattle.wf_formula.specs.Branches.{ruled_out}
 use Rattle.wf_formula.specs.Dimacs.{clause_text}
-use Rattle.wf_io.proofs.PagePieces.{all_put, stopped, went_on}
+use Rattle.wf_io.proofs.Lemmas.{all_put, stopped, went_on}
 use Rattle.wf_cnf.proofs.ExclusionLemmas.{next_clause}
 use Rattle.wf_cnf.proofs.exclusions.put_missing.Goals as goal
 

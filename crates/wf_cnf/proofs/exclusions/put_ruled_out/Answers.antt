@@ -4,7 +4,7 @@ use Rattle.wf_clauses.specs.Formula.{neg}
 use Rattle.wf_formula.specs.Branches.{ruled_out}
 use Rattle.wf_formula.specs.Encoding.{variable}
 use Rattle.wf_formula.specs.Dimacs.{clause_text, literal_text}
-use Rattle.wf_io.proofs.PagePieces.{begun, last_put, stopped, went_on}
+use Rattle.wf_io.proofs.Lemmas.{begun, last_put, stopped, went_on}
 use Rattle.wf_cnf.proofs.exclusions.put_ruled_out.Goals as goal
 
 pub returns-in_err-put_not : goal.returns-in_err-put_not

@@ -2,7 +2,7 @@ use Rattle.std.proofs.Common.{◌≡◌, ◌<◌, ◌+◌, ◌&&◌, ℕ, [], le
 use Rattle.std.proofs.Math.Bool.{and_comm}
 use Rattle.std.proofs.lemmas.List.{map-set, get_or-map, length-map}
 use Rattle.wf_model.specs.Lists.{has}
-use Rattle.wf_model.proofs.Basics.{has-filter}
+use Rattle.wf_model.proofs.Lemmas.{has-filter}
 use Rattle.wf_set.specs.Sets.{values_in}
 use Rattle.wf_cnf.proofs.GroupLemmas.{AreNarrowed, narrowed_more}
 use Rattle.wf_cnf.proofs.followers.narrow.Goals as goal

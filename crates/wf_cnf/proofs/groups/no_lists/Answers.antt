@@ -1,4 +1,4 @@
-use Rattle.wf_io.proofs.FailedCalls.{none_given}
+use Rattle.wf_io.proofs.Lemmas.{none_given}
 use Rattle.wf_cnf.proofs.groups.no_lists.Goals as goal
 
 pub returns-in_err-lists-clause-long : goal.returns-in_err-lists-clause-long

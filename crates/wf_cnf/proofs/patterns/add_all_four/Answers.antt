@@ -3,7 +3,7 @@ use Rattle.wf_set.specs.Sets.{values_in}
 use Rattle.wf_cnf.specs.Found.{found_with, having}
 use Rattle.wf_cnf.specs.Groups.{group_of}
 use Rattle.wf_cnf.specs.Patterns.{pattern_seen}
-use Rattle.wf_io.proofs.FailedCalls.{failed}
+use Rattle.wf_io.proofs.Lemmas.{failed}
 use Rattle.wf_cnf.proofs.Steps.{before_more, one_list_more}
 use Rattle.wf_cnf.proofs.patterns.add_all_four.Goals as goal
 

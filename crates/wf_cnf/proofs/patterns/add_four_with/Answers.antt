@@ -4,7 +4,7 @@ use Rattle.wf_set.specs.Sets.{values_in}
 use Rattle.wf_cnf.specs.Groups.{group_of}
 use Rattle.wf_cnf.specs.Patterns.{pattern_seen}
 use Rattle.wf_cnf.proofs.Steps.{with_lists}
-use Rattle.wf_io.proofs.FailedCalls.{failed}
+use Rattle.wf_io.proofs.Lemmas.{failed}
 use Rattle.wf_cnf.proofs.patterns.add_four_with.Goals as goal
 
 pub returns : goal.returns

@@ -5,7 +5,7 @@ use Rattle.wf_cnf.specs.Groups.{AreAllowed, AreFollowers, group_of}
 use Rattle.wf_cnf.specs.Patterns.{pattern_seen}
 use Rattle.wf_cnf.proofs.GroupLemmas.{allowed_more}
 use Rattle.wf_cnf.proofs.Steps.{with_allowed}
-use Rattle.wf_io.proofs.FailedCalls.{failed}
+use Rattle.wf_io.proofs.Lemmas.{failed}
 use Rattle.wf_cnf.proofs.patterns.add_three_with.Goals as goal
 
 pub returns : goal.returns

@@ -1,6 +1,6 @@
 use Rattle.std.proofs.Common.{◌++◌, map, length, refl, sym, ap}
 use Rattle.wf_set.specs.Sets.{values_in}
-use Rattle.wf_io.proofs.PagePieces.{begun, went_on, stopped, last_put}
+use Rattle.wf_io.proofs.Lemmas.{begun, went_on, stopped, last_put}
 use Rattle.wf_cnf.specs.Patterns.{patterns_seen}
 use Rattle.wf_cnf.specs.Clauses.{points_text, executions_text}
 use Rattle.wf_cnf.specs.Exclusions.{exclusions_text}

@@ -1,5 +1,5 @@
 use Rattle.std.proofs.Common.{◌++◌, ◌∷◌, [], decimal, refl, ap, sym}
-use Rattle.wf_io.proofs.PagePieces.{begun, went_on, last_put}
+use Rattle.wf_io.proofs.Lemmas.{begun, went_on, last_put}
 use Rattle.wf_cnf.proofs.variables.put_number.Goals as goal
 
 pub returns : goal.returns

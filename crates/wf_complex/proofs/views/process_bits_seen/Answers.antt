@@ -2,7 +2,7 @@ use Rattle.std.proofs.Common.{◌+◌, get_or, drop, arith, sym, ap, ◌∙◌}
 use Rattle.std.proofs.lemmas.List.{drop_all, drop_more}
 use Rattle.std.specs.Int.Bits.{bit_or, or_zero_r}
 use Rattle.wf_complex.specs.Table.{process_bits_at}
-use Rattle.wf_model.proofs.Basics.{or_assoc}
+use Rattle.wf_model.proofs.Lemmas.{or_assoc}
 use Rattle.wf_complex.proofs.views.process_bits_seen.Goals as goal
 
 pub loop-id-preserved : goal.loop-id-preserved

@@ -1,6 +1,6 @@
 use Rattle.std.proofs.Common.{map, vec_items, sym, ap, ◌∙◌, subst, arith}
 use Rattle.wf_refine.specs.AtHand.{at_hand}
-use Rattle.wf_refine.proofs.CaseSteps.{rule_found}
+use Rattle.wf_refine.proofs.Lemmas.{rule_found}
 use Rattle.wf_cover.specs.Faults.{cover_seen, flat_fault}
 use Rattle.wf_cover.specs.Turns.{IsGoing}
 use Rattle.wf_cover.proofs.FaultSteps.{as_flat, going, no_corner, no_sheet, one_participant, size_here, tuples_here}

@@ -16,9 +16,7 @@ use Rattle.wf_refine.specs.Names.{first_new}
 use Rattle.wf_refine.specs.Near.{most_at_hand}
 use Rattle.wf_cover.specs.Faults.{cover_seen}
 use Rattle.wf_cover.specs.LiftSeen.{lift_seen}
-use Rattle.wf_refine.proofs.Assembling.{left_after, left_short, rule_below, step_at_hand}
-use Rattle.wf_refine.proofs.CaseSteps.{good_rule, length-rules_seen, length_pushed, made_at_hand, rows_pushed, rule_found, rule_with}
-use Rattle.wf_refine.proofs.SplitSteps.{few_tuples, too_many_tuples}
+use Rattle.wf_refine.proofs.Lemmas.{left_after, left_short, rule_below, step_at_hand, good_rule, length-rules_seen, length_pushed, made_at_hand, rows_pushed, rule_found, rule_with, few_tuples, too_many_tuples}
 use Rattle.wf_cover.proofs.LiftSteps.{cover_long, faultless, few_sheets, same_cover}
 use Rattle.wf_cover.proofs.rows.covered_rows.Goals as goal
 

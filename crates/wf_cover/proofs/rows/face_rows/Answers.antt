@@ -8,8 +8,7 @@ use Rattle.wf_counting.specs.Signs.{keep}
 use Rattle.wf_trees.specs.Covers.{lifts, lifts_on_face}
 use Rattle.wf_trees.specs.Tuples.{has_tuple, is_kept, mask_of}
 use Rattle.wf_refine.specs.SplitSeen.{rule_of}
-use Rattle.wf_refine.proofs.Making.{more_made, rows_counted, too_many_more}
-use Rattle.wf_refine.proofs.SplitSteps.{face_keeps}
+use Rattle.wf_refine.proofs.Lemmas.{more_made, rows_counted, too_many_more, face_keeps}
 use Rattle.wf_cover.specs.LiftSeen.{lift_seen}
 use Rattle.wf_cover.proofs.LiftSteps.{face_lifted, kept_lifts}
 use Rattle.wf_cover.proofs.rows.face_rows.Goals as goal

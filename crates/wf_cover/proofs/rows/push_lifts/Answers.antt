@@ -4,9 +4,8 @@ use Rattle.std.proofs.lemmas.Result.{err_from_is_err_and}
 use Rattle.wf_model.specs.Lists.{below}
 use Rattle.wf_counting.specs.Signs.{keep}
 use Rattle.wf_trees.specs.Covers.{lifted, lifts}
-use Rattle.wf_trees.proofs.Places.{map_twice}
-use Rattle.wf_refine.proofs.Making.{too_many_more}
-use Rattle.wf_refine.proofs.PartFaces.{keep_long}
+use Rattle.wf_trees.proofs.Lemmas.{map_twice}
+use Rattle.wf_refine.proofs.Lemmas.{too_many_more, keep_long}
 use Rattle.wf_cover.specs.LiftSeen.{lift_seen}
 use Rattle.wf_cover.proofs.LiftSteps.{lift_pushed, lifted_long, lifts_long}
 use Rattle.wf_cover.proofs.rows.push_lifts.Goals as goal

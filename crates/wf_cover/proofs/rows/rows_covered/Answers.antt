@@ -11,7 +11,7 @@ use Rattle.wf_trees.specs.Tuples.{choices_of, is_part, value_at}
 use Rattle.wf_refine.specs.Choices.{chosen_by}
 use Rattle.wf_refine.specs.Limits.{IsTooMany}
 use Rattle.wf_refine.specs.SplitSeen.{rule_of}
-use Rattle.wf_refine.proofs.ChoiceSets.{choices_alike}
+use Rattle.wf_refine.proofs.Lemmas.{choices_alike}
 use Rattle.wf_cover.specs.LiftSeen.{lift_seen}
 use Rattle.wf_cover.proofs.LiftSteps.{corner_kept}
 use Rattle.wf_cover.proofs.rows.rows_covered.Goals as goal

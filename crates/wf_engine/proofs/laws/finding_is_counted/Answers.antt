@@ -1,5 +1,5 @@
 use Rattle.wf_engine.specs.Texts.{IsFound}
-use Rattle.wf_run.proofs.Counts.{counted}
+use Rattle.wf_run.proofs.Lemmas.{counted}
 use Rattle.wf_engine.proofs.laws.finding_is_counted.Goals as goal
 
 pub returns : goal.returns

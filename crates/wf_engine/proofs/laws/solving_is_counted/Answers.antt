@@ -1,5 +1,5 @@
 use Rattle.wf_engine.specs.Texts.{IsSolved}
-use Rattle.wf_run.proofs.Counts.{counted}
+use Rattle.wf_run.proofs.Lemmas.{counted}
 use Rattle.wf_engine.proofs.laws.solving_is_counted.Goals as goal
 
 pub returns : goal.returns

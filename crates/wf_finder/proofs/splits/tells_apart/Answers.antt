@@ -2,7 +2,7 @@ use Rattle.std.proofs.Common.{◌≡◌, All, length, sym, ap, ◌∙◌, subst,
 use Rattle.std.specs.Cmp.Lexicographic.{slice_cmp}
 use Rattle.std.specs.Ordering.{nat_cmp}
 use Rattle.wf_model.specs.Lists.{in_order}
-use Rattle.wf_refine.proofs.CaseSteps.{rule_found}
+use Rattle.wf_refine.proofs.Lemmas.{rule_found}
 use Rattle.wf_finder.proofs.splits.tells_apart.Goals as goal
 
 pub named_rows-requires-clause-few : goal.named_rows-requires-clause-few

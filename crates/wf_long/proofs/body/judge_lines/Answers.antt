@@ -4,8 +4,7 @@ use Rattle.wf_set.specs.Sets.{box_of}
 use Rattle.wf_report.specs.declared.fault.CertFault.{CertFault}
 use Rattle.wf_check.specs.Faults.{Judges}
 use Rattle.wf_check.specs.Left.{claimed, fault_of, lines_fault}
-use Rattle.wf_check.proofs.ClaimLemmas.{claim_is}
-use Rattle.wf_check.proofs.RootLemmas.{root_is}
+use Rattle.wf_check.proofs.Lemmas.{claim_is, root_is}
 use Rattle.wf_long.specs.Judged.{AreClaimed, AreJudged, part_of}
 use Rattle.wf_long.proofs.Bodies.{steps_unread, steps_weaker}
 use Rattle.wf_long.proofs.body.judge_lines.Goals as goal

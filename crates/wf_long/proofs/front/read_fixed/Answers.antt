@@ -1,6 +1,6 @@
 use Rattle.std.proofs.Common.{◌≡◌, ◌+◌, ◌∙◌, false, true, take, arith, ap, subst, sym, Ok, ℕ}
 use Rattle.wf_model.specs.Report.{same_text}
-use Rattle.wf_report.proofs.ReadLemmas.{not_false, not_true}
+use Rattle.wf_report.proofs.Lemmas.{not_false, not_true}
 use Rattle.wf_long.specs.Parts.{fixed_then}
 use Rattle.wf_long.specs.Reads.{Reads}
 use Rattle.wf_long.specs.Windows.{Ahead, CanGive}

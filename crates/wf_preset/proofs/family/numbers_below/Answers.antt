@@ -3,7 +3,7 @@ use Rattle.wf_model.specs.Lists.{below}
 use Rattle.wf_preset.specs.Family.{AreFew}
 use Rattle.wf_preset.proofs.FamilyTasks.{numbers-are}
 use Rattle.wf_preset.proofs.family.numbers_below.Goals as goal
-use Rattle.wf_model.proofs.Basics.{below_next}
+use Rattle.wf_model.proofs.Lemmas.{below_next}
 
 pub loop-number-preserved : goal.loop-number-preserved
 loop-number-preserved c =

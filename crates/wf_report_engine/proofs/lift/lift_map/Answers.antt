@@ -1,5 +1,5 @@
 use Rattle.std.proofs.Common.{◌≤◌, sym, subst}
-use Rattle.wf_verify_engine.proofs.ModelsToReports.{own_rounds}
+use Rattle.wf_verify_engine.proofs.Lemmas.{own_rounds}
 use Rattle.wf_report_engine.proofs.LiftSteps.{lifted_report, map_long}
 use Rattle.wf_report_engine.proofs.lift.lift_map.Goals as goal
 

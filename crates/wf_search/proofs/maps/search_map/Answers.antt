@@ -1,8 +1,6 @@
 use Rattle.std.proofs.Common.{◌≡◌, ◌+◌, ◌++◌, ◌∙◌, None, Some, [], ◌∷◌, sym, ap, subst, arith}
 use Rattle.wf_model.specs.Closing.{Trace, canonical}
-use Rattle.wf_model.proofs.CanonicalRefutations.{canonical_none_refutes}
-use Rattle.wf_model.proofs.LeastSolutions.{canonical_least}
-use Rattle.wf_model.proofs.TreesAreSound.{none_refutes}
+use Rattle.wf_model.proofs.Lemmas.{canonical_none_refutes, canonical_least, none_refutes}
 use Rattle.wf_box.specs.Boxes.{Tracked}
 use Rattle.wf_search.specs.Pending.{Boxes}
 use Rattle.wf_search.specs.Found.{turns}

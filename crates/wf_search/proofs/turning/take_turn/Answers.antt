@@ -2,8 +2,7 @@ use Rattle.std.proofs.Common.{◌≡◌, ◌<◌, length, ◌∙◌, [], ◌∷�
 use Rattle.wf_model.specs.Box.{branches_at, candidates, first_empty}
 use Rattle.wf_model.specs.Refutation.{branch, found}
 use Rattle.wf_model.specs.Closing.{closing}
-use Rattle.wf_model.proofs.ClosedBoxes.{closed_branch}
-use Rattle.wf_model.proofs.CanonicalSteps.{open_point}
+use Rattle.wf_model.proofs.Lemmas.{closed_branch, open_point}
 use Rattle.wf_lines.specs.declared.line.Line.TheVariants as line
 use Rattle.wf_box.specs.Closes.{Leaves}
 use Rattle.wf_box.specs.Least.{least_values}

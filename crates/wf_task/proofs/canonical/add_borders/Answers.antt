@@ -3,7 +3,7 @@ use Rattle.std.proofs.Common.{◌≡◌, ◌+◌, ◌++◌, ◌∷◌, [], map, 
 use Rattle.std.proofs.lemmas.List.{map-append}
 use Rattle.wf_model.specs.Lists.{below}
 use Rattle.wf_task.proofs.canonical.add_borders.Goals as goal
-use Rattle.wf_model.proofs.Basics.{below_next}
+use Rattle.wf_model.proofs.Lemmas.{below_next}
 
 pub loop-place-preserved : goal.loop-place-preserved
 loop-place-preserved c =

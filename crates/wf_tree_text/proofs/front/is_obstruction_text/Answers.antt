@@ -1,7 +1,7 @@
 use Rattle.std.proofs.Common.{◌≡◌, ℕ, List, [], ◌∷◌, ◌++◌, true, false, codes, ⊎_elim, sym, ap, ◌∙◌}
 use Rattle.wf_model.specs.Report.{line, lines_of, same_text}
 use Rattle.wf_report.specs.Reading.{lacks}
-use Rattle.wf_report.proofs.ReadLemmas.{last_piece, lines_cut, not_ended, same_ended}
+use Rattle.wf_report.proofs.Lemmas.{last_piece, lines_cut, not_ended, same_ended}
 use Rattle.wf_tree_text.specs.Text.{begins_as_obstruction, begins_with}
 use Rattle.wf_tree_text.proofs.front.is_obstruction_text.Goals as goal
 

@@ -1,6 +1,6 @@
 use Rattle.std.proofs.Common.{◌≡◌, ◌∙◌, Ok, Err, cond, codes, false, true, sym, ap}
 use Rattle.wf_model.specs.Report.{lines_of, same_text}
-use Rattle.wf_report.proofs.ReadLemmas.{fixed_is, no_fixed, not_false, not_true}
+use Rattle.wf_report.proofs.Lemmas.{fixed_is, no_fixed, not_false, not_true}
 use Rattle.wf_tree_text.proofs.front.read_first.Goals as goal
 
 pub returns-in_default-clause-rest : goal.returns-in_default-clause-rest

@@ -1,6 +1,6 @@
 use Rattle.std.proofs.Common.{◌∙◌, ap}
 use Rattle.wf_model.specs.Report.{lines_of}
-use Rattle.wf_report.proofs.ReadLemmas.{no_number, number_at_is, number_step}
+use Rattle.wf_report.proofs.Lemmas.{no_number, number_at_is, number_step}
 use Rattle.wf_tree_text.proofs.front.read_number.Goals as goal
 
 pub returns-in_default-clause-rest : goal.returns-in_default-clause-rest

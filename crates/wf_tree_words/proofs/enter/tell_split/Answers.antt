@@ -6,7 +6,7 @@ use Rattle.wf_counting.specs.Rules.{rule_at}
 use Rattle.wf_trees.specs.Trees.{new_name}
 use Rattle.wf_refine.specs.AtHand.{at_hand}
 use Rattle.wf_refine.specs.Names.{splitting}
-use Rattle.wf_refine.proofs.CaseSteps.{rule_found}
+use Rattle.wf_refine.proofs.Lemmas.{rule_found}
 use Rattle.wf_tree_words.specs.Words.{split_text}
 use Rattle.wf_tree_words.proofs.Telling.{split_of_rule}
 use Rattle.wf_tree_words.proofs.enter.tell_split.Goals as goal

@@ -1,6 +1,6 @@
 use Rattle.std.proofs.Common.{◌++◌, decimal, string_bytes, codes, ap, ◌∙◌, arith}
 use Rattle.wf_model.specs.Lists.{below}
-use Rattle.wf_model.proofs.Basics.{length-below}
+use Rattle.wf_model.proofs.Lemmas.{length-below}
 use Rattle.wf_tree_words.proofs.ListsInWords.{all_added, next_number, none_left, one_added}
 use Rattle.wf_tree_words.proofs.lists.put_below.Goals as goal
 

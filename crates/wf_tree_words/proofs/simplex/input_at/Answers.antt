@@ -1,8 +1,7 @@
 use Rattle.std.proofs.Common.{get_or, sym, ap, ◌∙◌}
 use Rattle.wf_model.specs.Simplex.{values_of}
 use Rattle.wf_simplex.specs.Entries.{value_at}
-use Rattle.wf_task.proofs.EntrySlots.{inner}
-use Rattle.wf_task.proofs.RowLemmas.{value_there}
+use Rattle.wf_task.proofs.Lemmas.{inner, value_there}
 use Rattle.wf_tree_words.proofs.simplex.input_at.Goals as goal
 
 pub unreachable-requires : goal.unreachable-requires

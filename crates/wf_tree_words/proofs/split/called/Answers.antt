@@ -3,7 +3,7 @@ use Rattle.std.proofs.lemmas.Bool.{cond-true, cond-false, eq-eqb, ne_eqb}
 use Rattle.std.proofs.lemmas.List.{length-map}
 use Rattle.std.proofs.lemmas.List.Elements.{All-filter}
 use Rattle.wf_trees.specs.Splits.{with_names}
-use Rattle.wf_refine.proofs.CaseSteps.{filter_step}
+use Rattle.wf_refine.proofs.Lemmas.{filter_step}
 use Rattle.wf_tree_words.specs.Calls.{splitting_of}
 use Rattle.wf_tree_words.proofs.Renaming.{named_at, row_named, wide}
 use Rattle.wf_tree_words.proofs.split.called.Goals as goal

@@ -1,7 +1,7 @@
 use Rattle.std.proofs.Common.{List, ℕ, get_or, map, sym, ap, ◌∙◌, arith, take_all}
 use Rattle.std.proofs.lemmas.List.{get_or-map, length-map}
 use Rattle.wf_trees.specs.Trees.{largest}
-use Rattle.wf_refine.proofs.LargestSteps.{value_more}
+use Rattle.wf_refine.proofs.Lemmas.{value_more}
 use Rattle.wf_tree_words.proofs.split.largest_at.Goals as goal
 
 pub rows-preserved : goal.rows-preserved

@@ -3,7 +3,7 @@ use Rattle.wf_model.specs.Task.{first_block, inputs}
 use Rattle.wf_model.specs.Execution.{executions}
 use Rattle.wf_model.specs.Points.{points}
 use Rattle.wf_complex.specs.Layout.{execution_total}
-use Rattle.wf_complex.proofs.Executions.{length-executions}
+use Rattle.wf_complex.proofs.Lemmas.{length-executions}
 use Rattle.wf_trim.specs.Stretches.{stretches}
 use Rattle.wf_trim.proofs.LiftedValues.{LiftedTo, goes_on_in, lifted_more, lifted_there}
 use Rattle.wf_trim.proofs.values.lift_values.Goals as goal

@@ -1,7 +1,7 @@
 use Rattle.std.proofs.Common.{◌≡◌, length, sym, ◌∙◌, arith}
 use Rattle.wf_model.specs.Execution.{executions}
 use Rattle.wf_complex.specs.Layout.{execution_total}
-use Rattle.wf_complex.proofs.Executions.{length-executions}
+use Rattle.wf_complex.proofs.Lemmas.{length-executions}
 use Rattle.wf_argument_words.proofs.executions.Executions.of.Goals as goal
 
 pub spans_of-requires-clause-few : goal.spans_of-requires-clause-few

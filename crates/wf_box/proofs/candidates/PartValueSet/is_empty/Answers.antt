@@ -1,5 +1,5 @@
 use Rattle.std.proofs.Common.{◌==◌, ap, length, sym, ◌∙◌}
-use Rattle.wf_set.proofs.SetLaws.{values_of_part}
+use Rattle.wf_set.proofs.Lemmas.{values_of_part}
 use Rattle.wf_box.proofs.candidates.PartValueSet.is_empty.Goals as goal
 
 pub returns : goal.returns

@@ -1,7 +1,7 @@
 use Rattle.std.proofs.Common.{◌≡◌, ℕ, [], ◌∷◌, MatchOption, Option, None, Some, ap, sym, ◌∙◌}
 use Rattle.wf_set.specs.Parts.{part_values}
 use Rattle.wf_set.specs.Sets.{values_in}
-use Rattle.wf_set.proofs.SetLaws.{values_of_part}
+use Rattle.wf_set.proofs.Lemmas.{values_of_part}
 use Rattle.wf_network.specs.Revising.{wide_set}
 use Rattle.wf_box.proofs.candidates.PartValueSet.split_first.Goals as goal
 

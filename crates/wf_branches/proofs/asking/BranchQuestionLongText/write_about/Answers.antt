@@ -2,7 +2,7 @@ use Rattle.std.proofs.Common.{ap, map, subst, ◌∙◌}
 use Rattle.wf_set.specs.Sets.{values_in}
 use Rattle.wf_formula.specs.Branches.{box_text, branch_text}
 use Rattle.wf_run.specs.Run.{HasComplex}
-use Rattle.wf_run.proofs.RunsInPieces.{beyond_build}
+use Rattle.wf_run.proofs.Lemmas.{beyond_build}
 use Rattle.wf_branches.specs.Branches.{HasBranch, IsNoBranch}
 use Rattle.wf_branches.proofs.BranchRuns.{beyond_branches, beyond_limits, broken, refused, text_is, written}
 use Rattle.wf_branches.proofs.asking.BranchQuestionLongText.write_about.Goals as goal

@@ -1,6 +1,6 @@
 use Rattle.std.proofs.Common.{◌++◌, [], ◌∷◌, string_bytes, codes}
 use Rattle.wf_model.specs.Report.{line}
-use Rattle.wf_engine.proofs.AnswersOfSearches.{and_more}
+use Rattle.wf_engine.proofs.Lemmas.{and_more}
 use Rattle.wf_branches.proofs.listing.ListingHeader.put.Goals as goal
 
 pub returns : goal.returns

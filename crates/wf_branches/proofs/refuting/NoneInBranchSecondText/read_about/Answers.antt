@@ -3,7 +3,7 @@ use Rattle.wf_formula.specs.Branches.{branch_question}
 use Rattle.wf_run.specs.Sources.{ReadsAbout}
 use Rattle.wf_run.specs.Run.{answered}
 use Rattle.wf_run.specs.declared.fault.RunFault.TheVariants.{OutOfMemory}
-use Rattle.wf_verify_engine.proofs.ProofsToLines.{refused, refused_so, told, untold}
+use Rattle.wf_verify_engine.proofs.Lemmas.{refused, refused_so, told, untold}
 use Rattle.wf_branches.specs.Refuting.{IsAcceptedBranch}
 use Rattle.wf_branches.proofs.BranchProofs.{found_in, missing_in, none_in, posed_in, told_of}
 use Rattle.wf_branches.proofs.refuting.NoneInBranchSecondText.read_about.Goals as goal

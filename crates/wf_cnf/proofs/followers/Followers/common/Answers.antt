@@ -7,7 +7,7 @@ use Rattle.wf_set.proofs.Lemmas.{same_sets}
 use Rattle.wf_cnf.specs.Groups.{AreAllowed, AreFollowers}
 use Rattle.wf_cnf.proofs.TupleLemmas.{and_true, items_more}
 use Rattle.wf_cnf.proofs.GroupLemmas.{allowed_more, each_set, written_back}
-use Rattle.wf_io.proofs.FailedCalls.{none_given}
+use Rattle.wf_io.proofs.Lemmas.{none_given}
 use Rattle.wf_cnf.proofs.followers.Followers.common.Goals as goal
 
 pub loop-tuples-init : goal.loop-tuples-init

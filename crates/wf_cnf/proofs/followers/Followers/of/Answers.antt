@@ -6,7 +6,7 @@ use Rattle.wf_set.specs.Sets.{value_limit, values_in}
 use Rattle.wf_set.proofs.Lemmas.{same_sets}
 use Rattle.wf_cnf.specs.Groups.{AreFollowers}
 use Rattle.wf_cnf.proofs.GroupLemmas.{each_set, taken_more, written_back}
-use Rattle.wf_io.proofs.FailedCalls.{none_given}
+use Rattle.wf_io.proofs.Lemmas.{none_given}
 use Rattle.wf_cnf.proofs.followers.Followers.of.Goals as goal
 
 pub loop-tuple-init : goal.loop-tuple-init

@@ -1,4 +1,4 @@
-use Rattle.wf_io.proofs.FailedCalls.{none_given}
+use Rattle.wf_io.proofs.Lemmas.{none_given}
 use Rattle.wf_cnf.proofs.groups.Groups.of.Goals as goal
 
 pub returns-in_err-lists : goal.returns-in_err-lists

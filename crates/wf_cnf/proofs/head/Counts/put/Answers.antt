@@ -1,4 +1,4 @@
-use Rattle.wf_io.proofs.FailedCalls.{failed}
+use Rattle.wf_io.proofs.Lemmas.{failed}
 use Rattle.wf_cnf.proofs.head.Counts.put.Goals as goal
 
 pub returns-in_err-put_words : goal.returns-in_err-put_words

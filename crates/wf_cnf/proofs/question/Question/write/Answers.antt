@@ -3,7 +3,7 @@ use Rattle.wf_model.specs.Limits.{most_points}
 use Rattle.wf_set.specs.Sets.{values_in}
 use Rattle.wf_io.specs.Seen.{Writing}
 use Rattle.wf_io.specs.Texts.{PutsText, WritesText}
-use Rattle.wf_io.proofs.PagePieces.{IsPut, begun, went_on, left_off, passed_on}
+use Rattle.wf_io.proofs.Lemmas.{IsPut, begun, went_on, left_off, passed_on}
 use Rattle.wf_cnf.specs.Patterns.{patterns_seen}
 use Rattle.wf_cnf.specs.Clauses.{AreCovered}
 use Rattle.wf_cnf.specs.Exclusions.{sets_in}

@@ -1,7 +1,7 @@
 use Rattle.std.proofs.Common.{◌++◌, ◌∷◌, [], decimal, refl, sym, ap}
 use Rattle.wf_set.specs.Sets.{values_in}
 use Rattle.wf_formula.specs.Encoding.{variable}
-use Rattle.wf_io.proofs.PagePieces.{begun, went_on, stopped, last_put}
+use Rattle.wf_io.proofs.Lemmas.{begun, went_on, stopped, last_put}
 use Rattle.wf_cnf.proofs.variables.Variables.put_not.Goals as goal
 
 pub returns-in_err-put : goal.returns-in_err-put

@@ -1,6 +1,6 @@
 use Rattle.std.proofs.Common.{◌≡◌, ◌∙◌, ◌<◌, Vec, Global, All, get_or, ap, sym, subst, length, arith}
 use Rattle.wf_model.specs.Problem.{IsWellFormed, problem_of}
-use Rattle.wf_model.proofs.WellFormed.{task_well_formed}
+use Rattle.wf_model.proofs.Lemmas.{task_well_formed}
 use Rattle.wf_network.specs.Users.{AreTold, AreUsers}
 use Rattle.wf_network.specs.Stands.{HasPoints}
 use Rattle.wf_network.specs.Problems.{AreLeads, IsWithin, problem_seen}

@@ -3,7 +3,7 @@ use Rattle.std.proofs.lemmas.List.{map-append}
 use Rattle.wf_model.specs.Lists.{below}
 use Rattle.wf_set.specs.Sets.{values_in}
 use Rattle.wf_formula.specs.Encoding.{at_least_one}
-use Rattle.wf_model.proofs.Basics.{below_next}
+use Rattle.wf_model.proofs.Lemmas.{below_next}
 use Rattle.wf_posing.specs.Posed.{Adds}
 use Rattle.wf_posing.proofs.PosingLemmas.{adds_more, adds_none}
 use Rattle.wf_posing.proofs.posing.Posing.add_points.Goals as goal

@@ -1,7 +1,7 @@
 use Rattle.std.proofs.Common.{ap}
 use Rattle.wf_argument_words.specs.Listing.{executions_text}
 use Rattle.wf_run.specs.Run.{HasComplex}
-use Rattle.wf_run.proofs.RunsInPieces.{beyond_build, broken, refused, written}
+use Rattle.wf_run.proofs.Lemmas.{beyond_build, broken, refused, written}
 use Rattle.wf_program.proofs.executions.ExecutionListLongText.write_about.Goals as goal
 
 pub returns-in_err-protocol : goal.returns-in_err-protocol

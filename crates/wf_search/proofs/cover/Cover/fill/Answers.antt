@@ -3,8 +3,7 @@ use Rattle.std.proofs.lemmas.Result.{IfOk-weaker}
 use Rattle.wf_model.specs.Box.{root}
 use Rattle.wf_model.specs.Laws.{HasCanonicalLines, IsRefutedBy}
 use Rattle.wf_model.specs.Outline.{filled}
-use Rattle.wf_model.proofs.FilledOutlines.{filled_refutes}
-use Rattle.wf_model.proofs.OutlinesAsSearches.{filled_canonical}
+use Rattle.wf_model.proofs.Lemmas.{filled_refutes, filled_canonical}
 use Rattle.wf_search.specs.Cover.{each_seen}
 use Rattle.wf_search.proofs.cover.Cover.fill.Goals as goal
 

@@ -3,7 +3,7 @@ use Rattle.std.proofs.lemmas.Result.{IfOk-weaker}
 use Rattle.wf_model.specs.Box.{root}
 use Rattle.wf_model.specs.Laws.{HasCanonicalMap}
 use Rattle.wf_model.specs.Outline.{filled_up_to}
-use Rattle.wf_model.proofs.OutlinesAsSearches.{filled_leads}
+use Rattle.wf_model.proofs.Lemmas.{filled_leads}
 use Rattle.wf_search.specs.Cover.{each_seen}
 use Rattle.wf_search.proofs.cover.Cover.fill_least.Goals as goal
 

@@ -1,7 +1,7 @@
 use Rattle.std.proofs.Common.{[], Some, Ok, Err, ap, ◌∙◌}
 use Rattle.wf_model.specs.Report.{none}
 use Rattle.wf_formula.specs.Encoding.{question}
-use Rattle.wf_formula.proofs.Tasks.{unsatisfiable_where}
+use Rattle.wf_formula.proofs.Lemmas.{unsatisfiable_where}
 use Rattle.wf_run.specs.declared.fault.RunFault.TheVariants.{OutOfMemory}
 use Rattle.wf_verify_engine.specs.Proofs.{IsAcceptedNone}
 use Rattle.wf_verify_engine.specs.Verify.{accepted_text}
