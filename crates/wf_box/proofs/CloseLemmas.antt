@@ -5,13 +5,12 @@ use Rattle.std.proofs.lemmas.List.{drop_all, length-map, nil_from_length}
 use Rattle.std.proofs.lemmas.List.Elements.{All-from_recursion}
 use Rattle.std.proofs.lemmas.List.Quantifiers.{position-Some}
 use Rattle.wf_model.specs.Simplex.{is_ascending}
-use Rattle.wf_model.specs.Problem.{Problem, IsSolution, IsWellFormed}
-use Rattle.wf_model.specs.Box.{Box, LiesIn, candidates, count, first_empty}
+use Rattle.wf_model.specs.Problem.{Problem}
+use Rattle.wf_model.specs.Box.{Box, candidates, count, first_empty}
 use Rattle.wf_model.specs.Refutation as refutation
 use Rattle.wf_model.specs.Closing.{Step, and_then, closing, closing_at, sweep, sweeps}
 use Rattle.wf_model.specs.Laws.{IsBoxOf}
-use Rattle.wf_model.proofs.Ascending.{is_ascending_from}
-use Rattle.wf_model.proofs.ClosedBoxes.{solution_left, closed_branch, closed_supports}
+use Rattle.wf_model.proofs.Lemmas.{is_ascending_from, closed_branch}
 use Rattle.wf_lines.specs.declared.line.Line.{Line}
 use Rattle.wf_set.specs.Sets.{box_of, values_in}
 use Rattle.wf_set.proofs.Lemmas.{values_ascend}
@@ -19,7 +18,7 @@ use Rattle.wf_box.specs.Changes.{taken_back, words_after}
 use Rattle.wf_box.specs.Quiet.{WasClosed}
 use Rattle.wf_box.specs.declared.tracked.Change.{Change}
 use Rattle.wf_box.specs.Steps.{left_by, reached}
-use Rattle.wf_box.specs.Closes.{IsSupported, Leaves, emptied_by}
+use Rattle.wf_box.specs.Closes.{Leaves, emptied_by}
 use Rattle.wf_box.specs.declared.closing.Closed.{Closed}
 use Rattle.wf_box.specs.declared.closing.Closed.TheVariants.{Empty, Open}
 
@@ -54,18 +53,9 @@ leaves_by (Open n) o box is = sym is
 same_box : {b c : Box} → ◌≡◌ {A = Option Box} (Some b) (Some c) → b ≡ c
 same_box is = cc
 
--- the solutions are kept
+-- what is reached is what closing leaves
 pub left_of : (p : Problem) (old new : List Line) (before after : List (List ℕ)) (closed : Closed) → reached new (emptied_by closed) after ≡ and_then (reached old None before) (closing p) → Leaves (closing p (box_of before)).left (box_of after) closed
 left_of p old new before after closed is = leaves_by closed (closing p (box_of before)).left (box_of after) (ap (λ (s : Step). s.left) is)
-
-pub solutions_kept : (p : Problem) (old new : Box) (closed : Closed) → IsWellFormed p → Leaves (closing p old).left new closed → (m : List ℕ) → IsSolution p m → LiesIn m old → LiesIn m new
-solutions_kept p old new (Empty v) well left m solves lies = let found = solution_left p well.in_range m solves old lies in absurd (let e : ◌≡◌ {A = Option Box} None (Some found.0) = sym left ∙ found.1 in let bad : ⊥ = cc in bad)
-solutions_kept p old new (Open n) well left m solves lies = let found = solution_left p well.in_range m solves old lies in subst (LiesIn m) (same_box (sym found.1 ∙ left)) found.2
-
--- each candidate is supported
-pub supported_there : (p : Problem) (old new : Box) (closed : Closed) → IsBoxOf p old → Leaves (closing p old).left new closed → IsSupported p new closed
-supported_there p old new (Empty v) is left = tt
-supported_there p old new (Open n) is left = closed_supports p new (closed_branch p old new is left).closed
 
 -- what closing left was closed after all changes
 pub was_closed : (p : Problem) (old : Box) (words : List (List ℕ)) (trail : List Change) (n : ℕ) → IsBoxOf p old → Leaves (closing p old).left (box_of words) (Open n) → WasClosed p trail words (length trail)

@@ -11,7 +11,7 @@ ghost use Rattle.wf_box.specs.Quiet.{EmptiesNoneSince, IsUntouchedSince, MarksTe
 ghost use Rattle.wf_set.specs.Sets.{box_of};
 ghost use Rattle.wf_network.specs.Problems.{IsNetwork, constraints_in, executions_in};
 ghost use Rattle.wf_box.specs.Steps.{ClosesTo, NamesAll, NamesLost, Reaches, SweepsTo, box_in};
-ghost use Rattle.wf_box.specs.Closes.{AddsClosing, AreFew, IsEmptied, IsSupported, KeepsSolutions, Leaves, LosesNamed, Takes, emptied_by, sweeps_to_close};
+ghost use Rattle.wf_box.specs.Closes.{AddsClosing, AreFew, IsEmptied, Leaves, LosesNamed, Takes, emptied_by, sweeps_to_close};
 ghost use Rattle.wf_box.specs.Working.{AreMarked, IsWorkingFor, IsWorkingOn, ProceedsFor, ProceedsOn};
 
 use crate::boxed::Box0;
@@ -59,8 +59,6 @@ pub fn close(
     ensures is { OnOk result (IsFor problem.now boxed.new) }
     ensures grown { OnOk result (Grows boxed.old boxed.new) }
     ensures closed { IfOk result (IsClosedNow boxed.new) }
-    ensures solutions { OnOk result (KeepsSolutions problem.now boxed.old.sets boxed.new.sets) }
-    ensures supported { IfOk result (IsSupported problem.now boxed.new.sets) }
     ensures sweeps { IfOk result (AreFew (count boxed.old.sets) (count boxed.new.sets)) }
     ensures sweep_count { IfOk result (Takes (sweeps_to_close problem.now boxed.old.sets)) }
     ensures refused_lines { OnErr result (lines.new.items ≡ lines.old.items) }

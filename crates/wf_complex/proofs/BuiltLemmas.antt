@@ -11,11 +11,9 @@ use Rattle.wf_model.specs.View.{View, base, same_view, process_of}
 use Rattle.wf_model.specs.Task.{Task, Rule, inputs, first_block}
 use Rattle.wf_model.specs.Execution as model
 use Rattle.wf_model.specs.Execution.{executions, last_views}
-use Rattle.wf_model.specs.Points.{class, classes, points, Appearance, same_point, appearances_in, first_appearances}
+use Rattle.wf_model.specs.Points.{class, execution_points, points, Appearance, same_point, appearances_in, first_appearances}
 use Rattle.wf_model.specs.Problem.{Constraint, number_of, constraint_of, problem_of}
-use Rattle.wf_model.proofs.Basics.{by_place}
-use Rattle.wf_model.proofs.WellFormed.{last_processes}
-use Rattle.wf_model.proofs.Numbers.{Apart, apart_distinct, map_same}
+use Rattle.wf_model.proofs.Lemmas.{by_place, last_processes, Apart, apart_distinct, map_same, weaker}
 use Rattle.wf_complex.specs.Views.{view_at}
 use Rattle.wf_complex.proofs.Ranked.{number_of-at}
 use Rattle.wf_complex.specs.declared.layout.ExecutionSlot.{ExecutionSlot}
@@ -29,7 +27,6 @@ use Rattle.wf_complex.proofs.Executions.{last_views-executions}
 use Rattle.wf_complex.proofs.Cuts.{parts-map, last_views_cut, laid_simplices}
 use Rattle.wf_complex.proofs.RuleAt.{rules_same, words_long}
 use Rattle.wf_complex.proofs.DifferentViews.{distinct_by_place, IsOnce, same_by_number, apart_once, there, distinct_views}
-use Rattle.wf_model.proofs.MapsAreSolutions.{weaker}
 use Rattle.std.proofs.lemmas.Simd.{map-map}
 
 -- ---- lists side by side
@@ -97,15 +94,15 @@ places_along t inputs k (e ∷ es) (x ∷ xs) h =
     (λ i. head i ++ places_along t inputs (k + 1) es xs rest i)
     ∙ sym (map-append at_appearance (appearances_in t (k, x)) (flat_map (appearances_in t) (enumerate_from (k + 1) xs)))
 
-points_along : (t : Task) (k : ℕ) (xs : List model.Execution) → map (λ (a : Appearance). a.point) (flat_map (appearances_in t) (enumerate_from k xs)) ≡ flat_map (classes t) xs
+points_along : (t : Task) (k : ℕ) (xs : List model.Execution) → map (λ (a : Appearance). a.point) (flat_map (appearances_in t) (enumerate_from k xs)) ≡ flat_map (execution_points t) xs
 points_along t k [] = refl
 points_along t k (x ∷ xs) =
     map-append (λ (a : Appearance). a.point) (appearances_in t (k, x)) (flat_map (appearances_in t) (enumerate_from (k + 1) xs))
     ∙ (λ i. map-map (λ (a : Appearance). a.point) (λ v. record { point = class t v; execution = k; process = process_of v }) (last_views x) i ++ points_along t (k + 1) xs i)
 
-classes_joined : (t : Task) (xs : List model.Execution) → flat_map (classes t) xs ≡ map (class t) (flat_map last_views xs)
+classes_joined : (t : Task) (xs : List model.Execution) → flat_map (execution_points t) xs ≡ map (class t) (flat_map last_views xs)
 classes_joined t [] = refl
-classes_joined t (x ∷ xs) = ap (λ vs. classes t x ++ vs) (classes_joined t xs) ∙ sym (map-append (class t) (last_views x) (flat_map last_views xs))
+classes_joined t (x ∷ xs) = ap (λ vs. execution_points t x ++ vs) (classes_joined t xs) ∙ sym (map-append (class t) (last_views x) (flat_map last_views xs))
 
 -- ---- what is built
 
@@ -124,7 +121,7 @@ module _ (t : Task) (r : ℕ) (table : List View) (lasts : List ℕ) (made : vie
 
   module _ (grown : List View) (once : IsOnce grown) (cs : List ℕ) (within : All (λ k. k < length grown) cs) (classed : views_at grown cs ≡ map (class_by t.symmetric) (views_at table lasts))
       (firsts : List ℕ) (first : firsts ≡ first_places cs (length cs)) where
-    all_classes : flat_map (classes t) (executions t r) ≡ views_at grown cs
+    all_classes : flat_map (execution_points t) (executions t r) ≡ views_at grown cs
     all_classes = classes_joined t (executions t r) ∙ ap (map (class t)) all_lasts ∙ sym classed
 
     abbrev point_views : List View
@@ -179,7 +176,7 @@ module _ (t : Task) (r : ℕ) (table : List View) (lasts : List ℕ) (made : vie
 
     module _ (numbers : List ℕ) (low : All (λ p. p < length firsts) numbers) (found : map (λ p. slice_index cs (slice_index firsts p)) numbers ≡ cs) where
       apart : Apart point_views
-      apart = subst Apart (sym points_are) (apart_distinct (flat_map (classes t) (executions t r)))
+      apart = subst Apart (sym points_are) (apart_distinct (flat_map (execution_points t) (executions t r)))
 
       number_there : (p : ℕ) → p < length firsts → number_of point_views (view_at grown (slice_index cs (slice_index firsts p))) ≡ p
       number_there p h =

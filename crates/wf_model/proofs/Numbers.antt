@@ -7,7 +7,7 @@ use Rattle.wf_model.specs.Lists.{distinct, IsBelow}
 use Rattle.wf_model.specs.View.{View, same_view, process_of}
 use Rattle.wf_model.specs.Task.{Task}
 use Rattle.wf_model.specs.Execution.{Execution, executions, last_views}
-use Rattle.wf_model.specs.Points.{class, classes, points, Appearance, appearances_in, first_appearances}
+use Rattle.wf_model.specs.Points.{class, execution_points, points, Appearance, appearances_in, first_appearances}
 use Rattle.wf_model.specs.DecisionMap.{IsLeast, listed}
 use Rattle.wf_model.specs.Problem.{number_of, problem_of, IsLeastSolution}
 use Rattle.wf_model.proofs.MapsAreSolutions.{same_itself, same_is, weaker, by_number, listed_solves, solution_decides}
@@ -63,7 +63,7 @@ read_by_number (p ∷ ps) (x ∷ values) apart long =
 
 -- a solution is the list of the map that it is
 pub listed_by_number : (t : Task) (r : ℕ) (values : List ℕ) → length values ≡ length (points t r) → listed t r (by_number t r values) ≡ values
-listed_by_number t r values long = read_by_number (points t r) values (apart_distinct (flat_map (classes t) (executions t r))) long
+listed_by_number t r values long = read_by_number (points t r) values (apart_distinct (flat_map (execution_points t) (executions t r))) long
 
 -- the least solution is the least decision map
 pub least_map : (t : Task) (r : ℕ) (values : List ℕ) → IsLeastSolution (problem_of t r) values → IsLeast t r (by_number t r values)
@@ -88,7 +88,7 @@ points_in : (t : Task) (n : ℕ) (vs : List View) → map (λ (a : Appearance). 
 points_in t n [] = refl
 points_in t n (v ∷ vs) = ap (λ ps. class t v ∷ ps) (points_in t n vs)
 
-appearing : (t : Task) (n : ℕ) (es : List Execution) → map (λ (a : Appearance). a.point) (flat_map (appearances_in t) (enumerate_from n es)) ≡ flat_map (classes t) es
+appearing : (t : Task) (n : ℕ) (es : List Execution) → map (λ (a : Appearance). a.point) (flat_map (appearances_in t) (enumerate_from n es)) ≡ flat_map (execution_points t) es
 appearing t n [] = refl
 appearing t n (e ∷ es) =
     map-append (λ (a : Appearance). a.point) (appearances_in t (n, e)) (flat_map (appearances_in t) (enumerate_from (n + 1) es))

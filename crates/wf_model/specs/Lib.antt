@@ -11,7 +11,6 @@ pub mod DecisionMap
 pub mod Problem
 pub mod Box
 pub mod Refutation
-pub mod Closing
 pub mod Split
 pub mod Outline
 pub mod Laws
@@ -23,6 +22,8 @@ pub mod Check
 pub mod AllSolutions
 pub mod Presets
 pub mod ViewCode
+-- What the program writes: which of many refutations, line by line. It is no fact of the field.
+pub mod Closing
 -- Worked examples: what the definitions give, by computation.
 pub mod ExampleTasks
 pub mod Examples

@@ -10,13 +10,14 @@ use Rattle.wf_model.specs.Execution.{Execution, executions, last_views}
 abbrev pub class : Task → View → View
 class t v = if t.symmetric then normal v else v
 
--- the classes of the last views, by ascending process
-abbrev pub classes : Task → Execution → List View
-classes t e = map (class t) (last_views e)
+-- the points of an execution: its last views, or in a symmetric task their classes, by ascending
+-- process
+abbrev pub execution_points : Task → Execution → List View
+execution_points t e = map (class t) (last_views e)
 
 -- in the order of first appearance, by execution and then by process
 abbrev pub points : Task → ℕ → List View
-points t r = distinct same_view (flat_map (classes t) (executions t r))
+points t r = distinct same_view (flat_map (execution_points t) (executions t r))
 
 -- how many different last views there are, by process too
 abbrev pub last_view_count : Task → ℕ → ℕ

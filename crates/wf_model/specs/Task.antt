@@ -16,7 +16,9 @@ pub record Rule : Type 0 where
   pub input : Simplex
   pub tuples : List Tuple
 
--- a task (I, O, Delta): a rule for each simplex of I in order, and the simplices of O in order
+-- A task (I, O, Delta): a rule for each simplex of I in order, and the simplices of O in order. In
+-- a symmetric task protocols are comparison-based: processes may compare their numbers, and use
+-- them in no other way.
 pub record Task : Type 0 where
   pub processes : ℕ
   pub symmetric : Bool

@@ -12,18 +12,12 @@ use Rattle.wf_model.specs.Word.{Word}
 use Rattle.wf_model.specs.Task.{Task, Rule, IsSimplexWithin, inputs, first_block, largest_value}
 use Rattle.wf_model.specs.View.{View, base, base_views, round, process_of}
 use Rattle.wf_model.specs.Execution.{Execution, executions, executions_on, last_views}
-use Rattle.wf_model.specs.Points.{class, classes, points, Appearance, same_point, appearances_in, first_appearances}
+use Rattle.wf_model.specs.Points.{class, execution_points, points, Appearance, same_point, appearances_in, first_appearances}
 use Rattle.wf_model.specs.DecisionMap.{listed}
 use Rattle.wf_model.specs.Problem.{number_of, constraint_of, problem_of}
-use Rattle.wf_model.proofs.RefutingLines.{each_at}
-use Rattle.wf_model.proofs.Ascending.{Ascends}
-use Rattle.wf_model.proofs.MapsAreSolutions.{Among, weaker, value_at_number, number_below, classes_are_points}
-use Rattle.wf_model.proofs.Headline.{each_flat, each_map, each_of_map, each_append, each_distinct}
-use Rattle.wf_model.proofs.Numbers.{appearances_points}
-use Rattle.wf_model.proofs.Tasks.{inputs_within}
-use Rattle.wf_model.proofs.WellFormed.{last_processes}
+use Rattle.wf_model.proofs.Lemmas.{each_at, Ascends, Among, weaker, value_at_number, number_below, classes_are_points, each_flat, each_map, each_of_map, each_append, each_distinct, appearances_points, inputs_within, last_processes}
 use Rattle.wf_complex.specs.Protocol.{Built, IsProtocol, point_in, simplices_of}
-use Rattle.wf_complex.proofs.RuleAt.{got}
+use Rattle.wf_complex.proofs.Lemmas.{got, as_many_executions}
 use Rattle.wf_trim.specs.Lift.{point_before, lifted, lifted_by}
 use Rattle.wf_trim.specs.declared.stretch.Stretch.{Stretch}
 use Rattle.wf_trim.specs.Stretches.{GoesOn, stretches, earlier}
@@ -31,7 +25,6 @@ use Rattle.wf_trim.proofs.Executions.{StandsBefore, stands_before}
 use Rattle.wf_trim.proofs.Lifts.{map_twice, stands_at_first}
 use Rattle.wf_trim.proofs.OwnViews.{Stands, stands_after, before_round}
 use Rattle.wf_trim.proofs.Places.{each_placed, as_many_numbers, each_numbered, there_within, of_mapped, in_mapped}
-use Rattle.wf_complex.proofs.Lemmas.{as_many_executions}
 
 -- ---- the point of so many rounds before
 
@@ -162,8 +155,8 @@ goes_on_from t r k b a before after few v at x s on there h =
     ap (λ ss. slice_get ss e) before.scopes_are
     ∙ in_mapped (λ k. k.scope) (problem_of t r).constraints e (constraint_of t ps old) (in_mapped (constraint_of t ps) (executions t r) e old h.there) in
     let among : Among ps (class t w.earlier_view) =
-    each_at (Among ps) (classes t old) x.place (class t w.earlier_view)
-    (each_at (λ e. AllByRecursion (Among ps) (classes t e)) (executions t r) e old (classes_are_points t r) h.there)
+    each_at (Among ps) (execution_points t old) x.place (class t w.earlier_view)
+    (each_at (λ e. AllByRecursion (Among ps) (execution_points t e)) (executions t r) e old (classes_are_points t r) h.there)
     (in_mapped (class t) (last_views old) x.place w.earlier_view w.there) in
     let process_is : process_of w.earlier_view ≡ at.process = sym w.same_process ∙ sym x.process in
     let part : point_in (process_of w.earlier_view) scope ≡ Some (number w.earlier_view) = point_at_place number (last_views old) x.place w.earlier_view w.ascends w.there in record {

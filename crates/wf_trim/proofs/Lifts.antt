@@ -10,14 +10,10 @@ use Rattle.wf_model.specs.Word.{Word, words}
 use Rattle.wf_model.specs.Task.{Task, Rule, IsTask, IsSimplexWithin, inputs, first_block, largest_value}
 use Rattle.wf_model.specs.View.{View, base_views, round, same_view}
 use Rattle.wf_model.specs.Execution.{executions, executions_on, last_views}
-use Rattle.wf_model.specs.Points.{class, classes, points}
+use Rattle.wf_model.specs.Points.{class, execution_points, points}
 use Rattle.wf_model.specs.DecisionMap.{IsDecisionMap, HasNoDecisionMap, listed}
 use Rattle.wf_model.specs.Problem.{IsSolution, problem_of, number_of, map_by_number}
-use Rattle.wf_model.proofs.MapsAreSolutions.{Among, weaker, value_at_number, number_below, classes_are_points, listed_solves, solution_decides}
-use Rattle.wf_model.proofs.Headline.{each_flat, each_map, each_of_map, each_distinct, both}
-use Rattle.wf_model.proofs.Ascending.{Ascends, ascends_from}
-use Rattle.wf_model.proofs.Tasks.{inputs_within}
-use Rattle.wf_model.proofs.WellFormed.{words_long, base_processes}
+use Rattle.wf_model.proofs.Lemmas.{Among, weaker, value_at_number, number_below, classes_are_points, listed_solves, solution_decides, each_flat, each_map, each_of_map, each_distinct, both, Ascends, ascends_from, inputs_within, words_long, base_processes}
 use Rattle.wf_trim.specs.Lift.{own_before, point_before, lifted, lifted_by, numbers_before, lifted_list}
 use Rattle.wf_trim.proofs.OwnViews.{Stands, stands_after, before_round}
 
@@ -104,8 +100,8 @@ none_before t r task none m decides = none (lifted t m) (lifts t r m task decide
 -- the point before each point is a point
 points_before : (t : Task) (r : ℕ) → IsTask t → AllByRecursion (λ v. Among (points t r) (point_before t v)) (points t (suc r))
 points_before t r task =
-    each_distinct (λ v. Among (points t r) (point_before t v)) same_view (flat_map (classes t) (executions t (suc r)))
-    (each_flat (λ v. Among (points t r) (point_before t v)) (classes t) (executions t (suc r))
+    each_distinct (λ v. Among (points t r) (point_before t v)) same_view (flat_map (execution_points t) (executions t (suc r)))
+    (each_flat (λ v. Among (points t r) (point_before t v)) (execution_points t) (executions t (suc r))
     (each_round_more t r (λ rule vs. AllByRecursion (Among (points t r)) (map (class t) vs)) (λ rule vs. AllByRecursion (λ v. Among (points t r) (point_before t v)) (map (class t) vs))
     (λ rule old new same among. each_of_map (Among (points t r)) (point_before t) (map (class t) new) (subst (AllByRecursion (Among (points t r))) (sym same) among))
     task (classes_are_points t r)))
@@ -131,7 +127,7 @@ solution_lifts t r values task solves =
 
 -- the points before are those of the execution without its last word
 pub without_last : (t : Task) (rule : Rule) (ws : List Word) (w : Word) → is_simplex rule.input ≡ true → AllByRecursion (λ u. length u ≡ length rule.input) (ws ++ (w ∷ [])) →
-    map (point_before t) (classes t (record { rule = rule; words = ws ++ (w ∷ []) })) ≡ classes t (record { rule = rule; words = ws })
+    map (point_before t) (execution_points t (record { rule = rule; words = ws ++ (w ∷ []) })) ≡ execution_points t (record { rule = rule; words = ws })
 without_last t rule ws w simplex long = from (base_views rule.input) ws long (stands_at_first rule.input simplex)
   where
     from : (old : List View) (ws : List Word) → AllByRecursion (λ u. length u ≡ length rule.input) (ws ++ (w ∷ [])) → Stands (length rule.input) old →

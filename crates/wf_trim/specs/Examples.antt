@@ -3,7 +3,7 @@ use Rattle.std.specs.Prelude.{◌≡◌, ℕ, [], ◌∷◌, map, refl}
 use Rattle.wf_model.specs.Execution.{Execution}
 use Rattle.wf_model.specs.View.{View, base, seen, no_views, view, normal}
 use Rattle.wf_model.specs.ExampleTasks.{edge, path, renaming_2_3}
-use Rattle.wf_model.specs.Points.{classes}
+use Rattle.wf_model.specs.Points.{execution_points}
 use Rattle.wf_model.specs.DecisionMap.{listed}
 use Rattle.wf_model.specs.Problem.{map_by_number}
 use Rattle.wf_trim.specs.Lift.{own_before, point_before, lifted, lifted_by, numbers_before, lifted_list}
@@ -49,10 +49,10 @@ one_alone_first = record { rule = record { input = edge 0 0; tuples = [] }; word
 abbrev three_names : View → ℕ
 three_names = map_by_number renaming_2_3 1 (2 ∷ 0 ∷ 1 ∷ [])
 
-pub two_names_with_ranks_anew : map (lifted renaming_2_3 three_names) (classes renaming_2_3 one_alone_first) ≡ 0 ∷ 2 ∷ []
+pub two_names_with_ranks_anew : map (lifted renaming_2_3 three_names) (execution_points renaming_2_3 one_alone_first) ≡ 0 ∷ 2 ∷ []
 two_names_with_ranks_anew = refl
 
-pub one_name_twice_without : map (λ v. three_names (own_before v)) (classes renaming_2_3 one_alone_first) ≡ 0 ∷ 0 ∷ []
+pub one_name_twice_without : map (λ v. three_names (own_before v)) (execution_points renaming_2_3 one_alone_first) ≡ 0 ∷ 0 ∷ []
 one_name_twice_without = refl
 
 -- two rounds later each process decides what it decides without a round: 4 is

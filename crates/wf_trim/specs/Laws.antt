@@ -5,7 +5,7 @@ use Rattle.wf_model.specs.Word.{Word}
 use Rattle.wf_model.specs.Simplex.{is_simplex}
 use Rattle.wf_model.specs.Task.{Task, Rule, IsTask}
 use Rattle.wf_model.specs.View.{View}
-use Rattle.wf_model.specs.Points.{class, classes, points}
+use Rattle.wf_model.specs.Points.{class, execution_points, points}
 use Rattle.wf_model.specs.DecisionMap.{IsDecisionMap, HasNoDecisionMap, listed}
 use Rattle.wf_model.specs.Problem.{IsSolution, problem_of}
 use Rattle.wf_trim.specs.Lift.{own_before, point_before, lifted, lifted_by, numbers_before, lifted_list}
@@ -14,7 +14,7 @@ use Rattle.wf_trim.specs.Lift.{own_before, point_before, lifted, lifted_by, numb
 abbrev pub ARoundMoreKeepsThePointsBefore : Type 0
 ARoundMoreKeepsThePointsBefore = (t : Task) (rule : Rule) (ws : List Word) (w : Word)
     → is_simplex rule.input ≡ true → AllByRecursion (λ u. length u ≡ length rule.input) (ws ++ (w ∷ []))
-    → map (point_before t) (classes t (record { rule = rule; words = ws ++ (w ∷ []) })) ≡ classes t (record { rule = rule; words = ws })
+    → map (point_before t) (execution_points t (record { rule = rule; words = ws ++ (w ∷ []) })) ≡ execution_points t (record { rule = rule; words = ws })
 
 -- a decision map after r rounds gives one after r + 1
 abbrev pub DecisionMapsLift : Type 0

@@ -12,7 +12,7 @@ use Rattle.wf_model.specs.Simplex.{Simplex, processes_of, values_of}
 use Rattle.wf_model.specs.Task.{Task, Rule, IsTask, IsSimplexWithin, inputs, values, largest_value}
 use Rattle.wf_model.specs.View.{View, same_view, process_of}
 use Rattle.wf_model.specs.Execution.{Execution, executions, last_views}
-use Rattle.wf_model.specs.Points.{class, classes, points}
+use Rattle.wf_model.specs.Points.{class, execution_points, points}
 use Rattle.wf_model.specs.DecisionMap.{IsDecisionMap, listed}
 use Rattle.wf_model.specs.Problem.{Problem, Constraint, constraint_of, problem_of}
 use Rattle.wf_model.specs.Box.{Box, LiesIn, candidates, root, without, decided, branches_at, count, first_open, first_empty, is_supported_in}
@@ -21,15 +21,7 @@ use Rattle.wf_model.specs.Closing.{Step, Trace, Loss, same_candidate, continued,
 use Rattle.wf_model.specs.LeastTree.{IsLeastTree, LeastAmong}
 use Rattle.wf_model.specs.Limits.{most_number}
 use Rattle.wf_model.specs.Report.{Body, a_map, none, least, largest, report_about}
-use Rattle.wf_model.proofs.RefutingLines.{each_at}
-use Rattle.wf_model.proofs.MapsAreSolutions.{weaker}
-use Rattle.wf_model.proofs.ClosedBoxes.{each_with_value}
-use Rattle.wf_model.proofs.LastSweep.{each_has}
-use Rattle.wf_model.proofs.Headline.{each_append, each_flat, each_map, each_of_map, each_filter, each_distinct, always, both, lies_in_root}
-use Rattle.wf_model.proofs.CanonicalSteps.{Leaves}
-use Rattle.wf_model.proofs.TreesAreSound.{point_within}
-use Rattle.wf_model.proofs.WellFormed.{task_listed, each_execution_with, last_processes, scope_processes}
-use Rattle.wf_model.proofs.Tasks.{inputs_within, outputs_within}
+use Rattle.wf_model.proofs.Lemmas.{each_at, weaker, each_with_value, each_has, each_append, each_flat, each_map, each_of_map, each_filter, each_distinct, always, both, lies_in_root, Leaves, point_within, task_listed, each_execution_with, last_processes, scope_processes, inputs_within, outputs_within}
 use Rattle.wf_simplex.proofs.Lemmas.{length-within}
 use Rattle.wf_task.proofs.Lemmas.{has_from_order}
 use Rattle.wf_complex.proofs.Lemmas.{length-distinct}
@@ -303,12 +295,12 @@ module _ (t : Task) (r : ℕ) (task : IsTask t) where
   -- at most four points for each execution
   pub points_few : length (points t r) ≤ length (executions t r) * 4
   points_few =
-      let all : length (flat_map (classes t) (executions t r)) ≤ length (executions t r) * 4 = flat_few 4 (classes t) (executions t r)
-      (executions_have (λ e. length (classes t e) ≤ 4)
-      (λ e s same. let long : length (classes t e) ≡ length e.rule.input =
+      let all : length (flat_map (execution_points t) (executions t r)) ≤ length (executions t r) * 4 = flat_few 4 (execution_points t) (executions t r)
+      (executions_have (λ e. length (execution_points t e) ≤ 4)
+      (λ e s same. let long : length (execution_points t e) ≡ length e.rule.input =
       length-map (last_views e) (class t) ∙ sym (length-map (last_views e) process_of) ∙ ap length same ∙ length-map e.rule.input (λ v. v.0) in
       omega (arith, long, inputs_few e.rule.input s))) in
-      let fewer : length (points t r) ≤ length (flat_map (classes t) (executions t r)) = length-distinct same_view (flat_map (classes t) (executions t r)) in
+      let fewer : length (points t r) ≤ length (flat_map (execution_points t) (executions t r)) = length-distinct same_view (flat_map (execution_points t) (executions t r)) in
       omega (arith, all, fewer)
 
 -- ---- the values of a task and of a map

@@ -5,12 +5,12 @@ use Rattle.wf_model.specs.Laws.{IsBoxOf}
 use Rattle.wf_model.specs.Closing.{closing}
 use Rattle.wf_set.specs.Sets.{box_of, values_in}
 use Rattle.wf_box.specs.Boxes.{Grows, IsFor, Tracked}
-use Rattle.wf_box.specs.Closes.{KeepsSolutions, Leaves}
+use Rattle.wf_box.specs.Closes.{Leaves}
 use Rattle.wf_network.specs.Problems.{constraint_seen, executions_in}
 use Rattle.wf_box.specs.Quiet as quiet
 use Rattle.wf_network.specs.Revising.{AreKnown, answers_in}
 use Rattle.wf_box.proofs.ChangeLemmas.{room_now}
-use Rattle.wf_box.proofs.CloseLemmas.{is_box, left_of, solutions_kept, supported_there, was_closed}
+use Rattle.wf_box.proofs.CloseLemmas.{is_box, left_of, was_closed}
 use Rattle.wf_box.proofs.SeenLemmas.{grown_seen, if_was, tracked_seen, was_seen}
 use Rattle.wf_box.proofs.WorkLemmas.{emptied_so}
 use Rattle.wf_box.proofs.closing.close.Goals.{in-Open, in-Empty}
@@ -65,25 +65,6 @@ returns-clause-is c =
       ];
       known = e.proceeds.known;
     }
-
-pub returns-clause-solutions : goal.returns-clause-solutions
-returns-clause-solutions c =
-    let t = c.close_tracked-closed.new.workspace.tracked in
-    let e = c.close_tracked-closed.ensures in
-    let p = c.args.problem.now in
-    let before = c.boxed.inside.workspace.tracked.words.items in
-    let left : Leaves (closing p (box_of before)).left (box_of t.words.items) c.close_tracked-closed.result = left_of p c.reserve.new.self.items c.close_tracked-closed.new.lines.items before t.words.items c.close_tracked-closed.result e.step in
-    subst (λ (b : Tracked). KeepsSolutions p b.sets (box_of t.words.items)) c.boxed.view_is (solutions_kept p (box_of before) (box_of t.words.items) c.close_tracked-closed.result c.network-network.ensures.well_formed left)
-
-pub returns-clause-supported : goal.returns-clause-supported
-returns-clause-supported c =
-    let t = c.close_tracked-closed.new.workspace.tracked in
-    let e = c.close_tracked-closed.ensures in
-    let p = c.args.problem.now in
-    let before = c.boxed.inside.workspace.tracked.words.items in
-    let left : Leaves (closing p (box_of before)).left (box_of t.words.items) c.close_tracked-closed.result = left_of p c.reserve.new.self.items c.close_tracked-closed.new.lines.items before t.words.items c.close_tracked-closed.result e.step in
-    let is : IsBoxOf p (box_of before) = subst (λ (b : Tracked). IsBoxOf p b.sets) (sym c.boxed.view_is) c.requires.is_box in
-    supported_there p (box_of before) (box_of t.words.items) c.close_tracked-closed.result is left
 
 pub returns-clause-emptied : goal.returns-clause-emptied
 returns-clause-emptied c = emptied_so c.reserve.new.self c.close_tracked-closed.new.lines c.boxed.inside.workspace.tracked c.close_tracked-closed.new.workspace.tracked c.close_tracked-closed.result c.close_tracked-closed.ensures.proceeds.ends
