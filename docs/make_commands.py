@@ -49,7 +49,7 @@ HEAD = """<!-- made by docs/make_commands.py: change that script or the program'
 
 Each command but `preset` reads standard input, and all write standard output. [FORMAT.md](FORMAT.md) describes the
 texts, and [ANSWERS.md](ANSWERS.md) says what they mean. The examples run at the top of the repository, with `bin/` on
-the path; `map.txt` is what the first wrote. [ask](../tools/README.md) decides much that `solve` alone doesn't end on.
+the path; `map.txt` is what the first wrote.
 
 """
 SHARED = """
@@ -101,8 +101,8 @@ def own(told, known):
 
 
 def section(name, told, known):
-    """What --help says of one command."""
-    lines = [f"{told.about}.", "", told.usage]
+    """What --help says of one command, but for its first sentence, which the table stands for."""
+    lines = [told.usage]
     for listed in own(told, known).values():
         width = max(len(word) for word, _ in listed)
         lines += ["", *(f"  {word:<{width}}  {said}".rstrip() for word, said in listed)]
