@@ -33,23 +33,34 @@ TEXTS = {
     "obstruction": ("a task", "an [obstruction](FORMAT.md#finding-an-obstruction)"),
     "preset": ("", "a [task with a name](FORMAT.md#presets)"),
 }
+# the commands by what somebody wants
+GROUPS = {
+    "Ask": ["solve", "obstruction", "preset"],
+    "Check": ["verify", "proof"],
+    "Read an answer": ["points", "explain", "trim", "lift"],
+    "See the complex": ["views", "executions"],
+    "Call a SAT solver": ["cnf", "model"],
+    "Share the work": ["branches", "join"],
+}
 # with which the help of each command ends; a later example may read what an earlier one wrote
 EXAMPLE = "Example: "
 HEAD = """<!-- made by docs/make_commands.py: change that script or the program's help, and not this page -->
 # Commands
 
-Each command but `preset` reads standard input. All write standard output. [FORMAT.md](FORMAT.md) describes the
+Each command but `preset` reads standard input, and all write standard output. [FORMAT.md](FORMAT.md) describes the
 texts, and [ANSWERS.md](ANSWERS.md) says what they mean. The examples run at the top of the repository, with `bin/` on
-the path. [ask](../tools/README.md) decides much that `solve` alone doesn't end on.
+the path; `map.txt` is what the first wrote.
 
 """
 SHARED = """
 ## Options of several commands
 
-An option without text below is one of these.
-
 | Option | What it says |
 |---|---|
+"""
+PLAIN = """
+These commands have no other options; those of `cnf` are `--branch`:
+
 """
 ENDS = """
 `wfcheck --version` writes the program's version, and the identity of the logic that proved it. [Exit
@@ -66,12 +77,15 @@ def examples(commands):
         yield told.text[-1].removeprefix(EXAMPLE)
 
 
-def table(commands):
-    """The table of all commands."""
+def table(commands, plain):
+    """The table of all commands, by groups. Plain commands have no section."""
+    shown = dict(zip(commands, examples(commands)))
     yield "|Command|Reads|Writes|Example|\n|---|---|---|---|\n"
-    for name, example in zip(commands, examples(commands)):
-        reads, writes = TEXTS[name]
-        yield f"|[{name}](#{name})|{reads}|{writes}|`{example.replace('|', chr(92) + '|')}`|\n"
+    for group, names in GROUPS.items():
+        yield f"|**{group}**| | | |\n"
+        for name in names:
+            reads, writes = TEXTS[name]
+            yield f"|{name if name in plain else f'[{name}](#{name})'}|{reads}|{writes}|`{shown[name].replace('|', chr(92) + '|')}`|\n"
 
 
 def shared(commands):
@@ -80,13 +94,20 @@ def shared(commands):
     return [it for it, times in many.items() if times >= MANY and not it[0].startswith("-h,")]
 
 
+def own(told, known):
+    """The lists of a command's help without the option that asks for help and known options: each a heading and its lines."""
+    lists = {head: [it for it in listed if it not in known and not it[0].startswith("-h,")] for head, listed in told.lists.items()}
+    return {head: listed for head, listed in lists.items() if listed}
+
+
 def section(name, told, known):
-    """What --help says of one command, without the option that asks for help. Known options have no text."""
-    lines = [f"{told.about}.", "", told.usage]
-    for listed in told.lists.values():
-        listed = [(word, "" if (word, said) in known else said) for word, said in listed if not word.startswith("-h,")]
-        width = max((len(word) for word, _ in listed), default=0)
-        lines += ["", *(f"  {word:<{width}}  {said}".rstrip() for word, said in listed)] if listed else []
+    """What --help says of one command, but for its first sentence, which the table stands for."""
+    lines = [told.usage]
+    for listed in own(told, known).values():
+        width = max(len(word) for word, _ in listed)
+        lines += ["", *(f"  {word:<{width}}  {said}".rstrip() for word, said in listed)]
+    others = " ".join(it[0].split(" ")[0] for it in known if it in told.lists.get("Options", []))
+    lines += [f"  {others} as above"] if others else []
     return "\n".join([f"\n## {name}\n", "```", *lines, *([""] if told.text else []), *told.text, "```\n"])
 
 
@@ -103,13 +124,15 @@ def checker():
 def made():
     """The page, with its text."""
     commands = manual.commands()
-    if unlike := {*commands} ^ {*TEXTS}:
-        sys.exit(f"the program's commands and TEXTS differ in {' '.join(sorted(unlike))}")
-    known = shared(commands)
+    if unlike := {*commands} ^ {*TEXTS} | {*commands} ^ {it for names in GROUPS.values() for it in names}:
+        sys.exit(f"the program's commands, TEXTS and GROUPS differ in {' '.join(sorted(unlike))}")
+    known, bare = shared(commands), {name: without_example(told) for name, told in commands.items()}
+    plain = {name: told.usage for name, told in bare.items() if not told.text and not own(told, known)}
     options = [f"| `{word}` | {said} |\n" for word, said in known]
-    sections = [section(name, without_example(told), known) for name, told in commands.items()]
+    usages = [PLAIN, "```\n", *(f"{usage}\n" for usage in plain.values()), "```\n"]
+    sections = [section(name, bare[name], known) for names in GROUPS.values() for name in names if name not in plain]
     sections += [section(manual.CHECKER, checker(), known)]
-    return {PAGE: "".join([HEAD, *table(commands), ENDS, SHARED, *options, *sections])}
+    return {PAGE: "".join([HEAD, *table(commands, plain), ENDS, SHARED, *options, *usages, *sections])}
 
 
 def main():
