@@ -374,7 +374,7 @@ class Tree:
 def obstruction_text_of(task, text):
     """An obstruction in words."""
     nodes = nodes_of(text)
-    symmetric = (" The task is symmetric: a simplex stands for all with the same inputs in the order of their processes, and points are views"
+    symmetric = (" The task is symmetric, so this is about comparison-based protocols: a simplex stands for all with the same inputs in the order of their processes, and points are views"
                  " up to the names of the processes.")
     signs = ("An execution of n processes after r rounds counts with a minus sign if n * r and the number of blocks in its words"
              " differ by an odd number.\n")

@@ -27,7 +27,7 @@ unfolding digits
 hourglass_by_cases_in_words = refl
 
 -- modulo 3 executions have signs, and views are classes
-pub symmetry_breaking_in_words : argument_text (symmetry_breaking 3) (balance_node 3 1 three_bits ∷ []) ≡ codes "No decision map after any number of rounds.\n\nSuppose that there is a decision map. The task is symmetric: a simplex stands for all with the same inputs in the order of their processes, and points are views up to the names of the processes.\nCount executions with their signs modulo 3:\n  {p0=0} has one execution,\n  p1 decides 1 as often on {p0=0, p1=0} as on {p1=0},\n  p0 decides 0 as often on {p0=0, p1=0} as on {p0=0},\n  p1 and p2 decide 1 1 as often on {p0=0, p1=0, p2=0} as on {p1=0, p2=0},\n  p0 and p2 decide 0 1 as often on {p0=0, p1=0, p2=0} as on {p0=0, p2=0}, 2 times,\n  p0 and p1 decide 0 0 as often on {p0=0, p1=0, p2=0} as on {p0=0, p1=0}.\nAdd these equations up. Each tuple that is allowed counts as often on the left as on the right modulo 3, but the single executions add 1 on the right. So 0 would be 1 modulo 3.\nAn execution of n processes after r rounds counts with a minus sign if n * r and the number of blocks in its words differ by an odd number.\n"
+pub symmetry_breaking_in_words : argument_text (symmetry_breaking 3) (balance_node 3 1 three_bits ∷ []) ≡ codes "No decision map after any number of rounds.\n\nSuppose that there is a decision map. The task is symmetric, so this is about comparison-based protocols: a simplex stands for all with the same inputs in the order of their processes, and points are views up to the names of the processes.\nCount executions with their signs modulo 3:\n  {p0=0} has one execution,\n  p1 decides 1 as often on {p0=0, p1=0} as on {p1=0},\n  p0 decides 0 as often on {p0=0, p1=0} as on {p0=0},\n  p1 and p2 decide 1 1 as often on {p0=0, p1=0, p2=0} as on {p1=0, p2=0},\n  p0 and p2 decide 0 1 as often on {p0=0, p1=0, p2=0} as on {p0=0, p2=0}, 2 times,\n  p0 and p1 decide 0 0 as often on {p0=0, p1=0, p2=0} as on {p0=0, p1=0}.\nAdd these equations up. Each tuple that is allowed counts as often on the left as on the right modulo 3, but the single executions add 1 on the right. So 0 would be 1 modulo 3.\nAn execution of n processes after r rounds counts with a minus sign if n * r and the number of blocks in its words differ by an odd number.\n"
 unfolding digits
 symmetry_breaking_in_words = refl
 

@@ -265,7 +265,7 @@ most_levels = 64
 abbrev pub symmetric_text : Bool → List ℕ
 symmetric_text symmetric =
     if symmetric
-    then codes " The task is symmetric: a simplex stands for all with the same inputs in the order of their processes, and points are views up to the names of the processes."
+    then codes " The task is symmetric, so this is about comparison-based protocols: a simplex stands for all with the same inputs in the order of their processes, and points are views up to the names of the processes."
     else []
 
 -- modulo 2 signs make no difference

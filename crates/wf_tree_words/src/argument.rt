@@ -63,7 +63,7 @@ fn put_symmetric(text: &mut String, symmetric: bool) -> Result<(), AllocError>
     if symmetric {
         write!(
             text,
-            " The task is symmetric: a simplex stands for all with the same inputs in the order of their processes, and points are views up to the names of the processes."
+            " The task is symmetric, so this is about comparison-based protocols: a simplex stands for all with the same inputs in the order of their processes, and points are views up to the names of the processes."
         )?;
     }
     Ok(())
