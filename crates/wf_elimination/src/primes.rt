@@ -2,14 +2,11 @@
 
 ghost use Rattle.std.specs.Prelude.{◌≤◌};
 
-use crate::ring::{Ring, power_in};
+use crate::ring::{MOST_DOUBLINGS, Ring, power_in};
 
 /// The bases of the test. No other number below 4,759,123,141 than a prime passes for all three of
 /// them (Jaeschke, On strong pseudoprimes to several bases, 1993).
 const BASES: [u32; 3] = [2, 7, 61];
-
-/// The most doublings of a number below 2^32.
-const MOST_DOUBLINGS: u8 = 32;
 
 /// Whether a number is a prime, by the test of Miller and Rabin.
 ///

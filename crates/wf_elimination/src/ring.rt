@@ -3,7 +3,7 @@
 ghost use Rattle.std.specs.Prelude.{◌<◌};
 
 /// The most doublings of a number below 2^32.
-const MOST_DOUBLINGS: u8 = 32;
+pub(crate) const MOST_DOUBLINGS: u8 = 32;
 
 /// The numbers modulo a power of a prime: those from 0 to below the modulus. Only such numbers may
 /// be given to its methods.
