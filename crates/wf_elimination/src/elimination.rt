@@ -3,8 +3,11 @@
 use crate::fault::{EliminationFault, judge_entries};
 use crate::kept::{Solved, Use};
 use crate::ring::Ring;
-use crate::row::{Coefficient, SparseRow};
+use crate::row::{Coefficient, FIRST_ROOM, SparseRow};
 use std::alloc::{AllocError, Global};
+
+/// For how many entries of equations that are kept there is room at first.
+const ENTRY_ROOM: usize = 4 * FIRST_ROOM;
 
 /// Equations modulo a prime power, each solved for an unknown of the highest level that it has.
 ///
@@ -33,10 +36,10 @@ impl Elimination {
         Ok(Elimination {
             ring,
             row: SparseRow::new(alloc)?,
-            current: Vec::new(alloc),
-            entries: Vec::new(alloc),
-            solved: Vec::new(alloc),
-            uses: Vec::new(alloc),
+            current: Vec::with_capacity(alloc, FIRST_ROOM)?,
+            entries: Vec::with_capacity(alloc, ENTRY_ROOM)?,
+            solved: Vec::with_capacity(alloc, FIRST_ROOM)?,
+            uses: Vec::with_capacity(alloc, ENTRY_ROOM)?,
             steps: 0,
         })
     }

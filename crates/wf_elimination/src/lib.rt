@@ -20,6 +20,7 @@ mod keep;
 mod kept;
 mod multipliers;
 mod powers;
+mod primes;
 mod queue;
 mod ring;
 mod row;

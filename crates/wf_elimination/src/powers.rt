@@ -1,5 +1,6 @@
 //! The prime powers that a modulus is made of.
 
+use crate::primes::is_prime;
 use crate::ring::{Ring, divides, power_in};
 use std::alloc::{AllocError, Global};
 
@@ -13,14 +14,16 @@ const LARGEST_ROOT: u32 = 65_535;
 pub fn prime_powers(alloc: Global, modulus: u32) -> Result<Vec<Ring>, AllocError> {
     let mut rings = Vec::new(alloc);
     let mut left = modulus;
+    let mut is_last = is_prime(left);
     for prime in 2..=LARGEST_ROOT {
-        if left <= 1 || prime > left / prime {
+        if left <= 1 || is_last {
             break;
         }
         if divides(prime, left) {
             let power = power_in(left, prime);
             rings.push(Ring::of(power, prime))?;
             left /= power;
+            is_last = is_prime(left);
         }
     }
     if left > 1 {

@@ -3,7 +3,7 @@
 ghost use Rattle.std.specs.Prelude.{◌<◌};
 
 /// The most doublings of a number below 2^32.
-const MOST_DOUBLINGS: u8 = 32;
+pub(crate) const MOST_DOUBLINGS: u8 = 32;
 
 /// The numbers modulo a power of a prime: those from 0 to below the modulus. Only such numbers may
 /// be given to its methods.
@@ -42,8 +42,26 @@ impl Ring {
         if self.modulus == 2 {
             return number ^ (factor & times);
         }
-        let product = u64::from(factor) * u64::from(times);
-        ((u64::from(number) + product) % u64::from(self.modulus)) as u32
+        let more = if times == self.modulus - 1 {
+            u64::from(self.modulus.saturating_sub(factor))
+        } else {
+            u64::from(factor) * u64::from(times)
+        };
+        self.reduced(u64::from(number) + more)
+    }
+
+    /// What is left of a number modulo the modulus. Most are so small that no division is needed.
+    #[inline]
+    fn reduced(self, number: u64) -> u32 {
+        let modulus = u64::from(self.modulus);
+        if number < modulus {
+            return number as u32;
+        }
+        let less = number - modulus;
+        if less < modulus {
+            return less as u32;
+        }
+        (less % modulus) as u32
     }
 
     /// The sum of two numbers.
@@ -58,11 +76,17 @@ impl Ring {
 
     /// What gives 0 when it is added to a number.
     pub fn negative(self, number: u32) -> u32 {
-        (self.modulus - number % self.modulus) % self.modulus
+        if number == 0 {
+            return 0;
+        }
+        self.modulus.saturating_sub(number)
     }
 
     /// Whether a number has an inverse.
     pub(crate) fn is_unit(self, number: u32) -> bool {
+        if self.prime == self.modulus {
+            return number != 0;
+        }
         number % self.prime != 0
     }
 
@@ -75,19 +99,22 @@ impl Ring {
     ///
     /// It is a power of the number, as the numbers with an inverse are a group.
     pub fn inverse(self, unit: u32) -> u32 {
-        if unit == 1 {
-            return 1;
+        if self.is_sign(unit) {
+            return unit;
         }
         let count = self.modulus - self.modulus / self.prime;
         self.power(unit, count.saturating_sub(1))
     }
 
     /// A number to this power.
-    fn power(self, number: u32, exponent: u32) -> u32 {
+    pub(crate) fn power(self, number: u32, exponent: u32) -> u32 {
         let mut result_so_far = 1;
         let mut square = number;
         let mut left = exponent;
         for _ in 0..MOST_DOUBLINGS {
+            if left == 0 {
+                break;
+            }
             if left % 2 == 1 {
                 result_so_far = self.product(result_so_far, square);
             }

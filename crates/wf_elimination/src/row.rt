@@ -8,6 +8,9 @@ use std::alloc::{AllocError, Global};
 /// How many levels of unknowns there are: from 0 on. The constant is the only unknown of level 0.
 pub const LEVELS: u8 = 5;
 
+/// For how many unknowns there is room at first, so that small systems take memory seldom.
+pub(crate) const FIRST_ROOM: usize = 64;
+
 /// An unknown and its factor in an equation.
 #[derive(Clone, Copy)]
 pub(crate) struct Coefficient {
@@ -76,13 +79,13 @@ impl SparseRow {
         let mut levels = Vec::new(alloc);
         for _ in 0..LEVELS {
             levels.push(Level {
-                listed: Vec::new(alloc),
+                listed: Vec::with_capacity(alloc, FIRST_ROOM)?,
                 due: Queue::new(alloc),
-                solved: Vec::new(alloc),
+                solved: Vec::with_capacity(alloc, FIRST_ROOM)?,
             })?;
         }
         Ok(SparseRow {
-            unknowns: Vec::new(alloc),
+            unknowns: Vec::with_capacity(alloc, FIRST_ROOM)?,
             levels,
         })
     }
