@@ -12,7 +12,8 @@ use Rattle.std.proofs.lemmas.List.{drop_more, take_more_set}
 use Rattle.std.proofs.lemmas.List.Kept.{IsStrictlySortedBy-filter}
 use Rattle.wf_model.specs.Simplex.{Simplex, Vertex, is_face, is_nonempty, same_vertex, vertex_cmp}
 use Rattle.wf_model.specs.Task.{IsTaskSimplex, Tuple}
-use Rattle.wf_simplex.proofs.Lemmas.{Climbs, climbs, Has, filter-has, has-filter, same_in_order}
+use Rattle.wf_simplex.proofs.BoundedFaces.{Climbs}
+use Rattle.wf_simplex.proofs.Lemmas.{climbs, Has, filter-has, has-filter, same_in_order}
 use Rattle.wf_simplex.specs.Order.{nat_cmp-Equal, same_simplex-decides, vertex_cmp-total}
 use Rattle.wf_counting.specs.Signs.{keep}
 use Rattle.wf_trees.specs.Tuples.{is_part, mask_of}
