@@ -5,8 +5,8 @@ ghost use Rattle.wf_branches.specs.Refuting.{IsAcceptedBranch, ReadsIn};
 
 use crate::branch::branch_of;
 use std::io::Read;
+use wf_cnf::pose_branch;
 use wf_io::Source;
-use wf_posing::pose_branch;
 use wf_run::{Answered, SecondText, TextSubject};
 use wf_verify_engine::{ProofFormat, ProofListener};
 

@@ -1,9 +1,9 @@
--- The clauses that rule out what a branch has not: how many they are, and their text.
+-- The clauses that rule out what a branch has not: how many they are, and their tokens.
 use Rattle.std.proofs.Common.{◌≡◌, ℕ, ◌+◌, List, ◌∷◌, ◌++◌, map, flat_map, length, sym, ap, ◌∙◌, arith}
 use Rattle.std.proofs.lemmas.List.{length-map}
 use Rattle.wf_model.specs.Lists.{below}
 use Rattle.wf_clauses.specs.Formula.{Clause}
-use Rattle.wf_formula.specs.Dimacs.{clause_text}
+use Rattle.wf_cnf.specs.Tokens.{clause_tokens, formula_tokens}
 use Rattle.wf_cnf.proofs.TextLemmas.{length_more}
 
 -- ---- the clauses of a point
@@ -15,7 +15,6 @@ counted_more f g n start before after more left here counted added so_far =
     let long : length left ≡ length (f n) = sym (length-map left g) ∙ ap length here in
     omega (arith, long, counted, added, so_far, length_more f n)
 
--- the text of the clauses of values that begin so
-pub next_clause : (f : ℕ → Clause) (v : ℕ) (left rest : List ℕ) → left ≡ v ∷ rest
-    → flat_map clause_text (map f left) ≡ clause_text (f v) ++ flat_map clause_text (map f rest)
-next_clause f v left rest is = ap (λ vs. flat_map clause_text (map f vs)) is
+-- the clauses of values that begin so
+pub next_clause : (f : ℕ → Clause) (v : ℕ) (left rest : List ℕ) → left ≡ v ∷ rest → formula_tokens (map f left) ≡ clause_tokens (f v) ++ formula_tokens (map f rest)
+next_clause f v left rest is = ap (λ vs. formula_tokens (map f vs)) is

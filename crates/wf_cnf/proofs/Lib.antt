@@ -5,7 +5,8 @@ pub mod Steps
 pub mod TextLemmas
 pub mod Questions
 pub mod PutLemmas
+pub mod TakenLemmas
+pub mod PosingLemmas
 pub mod SolverLemmas
 pub mod StatedLemmas
 pub mod ExclusionLemmas
-pub mod Lemmas

@@ -1,8 +1,7 @@
--- What is left of a text before a clause, and after it.
+-- What is left before a clause, and after it.
 use Rattle.std.proofs.Common.{◌≡◌, ℕ, zero, suc, ◌+◌, ◌-◌, ◌<◌, ◌≤◌, List, [], ◌∷◌, ◌++◌, map, flat_map, zip, length, drop, get_or, min, refl, sym, ap, ◌∙◌, arith}
 use Rattle.std.specs.List.{range_with_len}
 use Rattle.std.proofs.Math.Seq.{drop-cons}
-use Rattle.std.proofs.lemmas.List.{get_or_default}
 use Rattle.std.proofs.lemmas.List.Concat.{flat_map-append}
 use Rattle.std.proofs.lemmas.Slice.Zip.{length-zip, get_or-zip}
 
@@ -23,35 +22,28 @@ no_number n m high = ap (range_with_len n) e
     e = omega (arith, high)
 
 -- texts of things that numbers give
-pub next_of : {X : Type 0} (text : X → List ℕ) (f : ℕ → X) (n m : ℕ) → n < m
+pub next_of : {X W : Type 0} (text : X → List W) (f : ℕ → X) (n m : ℕ) → n < m
     → flat_map text (map f (between_numbers n m)) ≡ text (f n) ++ flat_map text (map f (between_numbers (n + 1) m))
 next_of text f n m low = ap (λ ns. flat_map text (map f ns)) (next_number n m low)
 
-pub next_list_of : {X : Type 0} (text : X → List ℕ) (f : ℕ → List X) (n m : ℕ) → n < m
+pub next_list_of : {X W : Type 0} (text : X → List W) (f : ℕ → List X) (n m : ℕ) → n < m
     → flat_map text (flat_map f (between_numbers n m)) ≡ flat_map text (f n) ++ flat_map text (flat_map f (between_numbers (n + 1) m))
 next_list_of text f n m low =
     ap (λ ns. flat_map text (flat_map f ns)) (next_number n m low) ∙ flat_map-append text (f n) (flat_map f (between_numbers (n + 1) m))
 
--- the items of a list from i on
-pub next_item : {X Y : Type 0} (text : Y → List ℕ) (f : X → Y) (xs : List X) (i : ℕ) (x : X) → i < length xs → x ≡ get_or xs i x
-    → flat_map text (map f (drop i xs)) ≡ text (f x) ++ flat_map text (map f (drop (i + 1) xs))
-next_item text f xs i x low is =
-    ap (λ ys. flat_map text (map f ys)) (drop-cons xs i x low ∙ ap (λ y. y ∷ drop (suc i) xs) (sym is) ∙ ap (λ n. x ∷ drop n xs) e)
+-- the pairs of two lists from i on
+pub next_entry : (xs ys : List ℕ) (i size a b : ℕ) → i < size → size ≡ min (length xs) (length ys) → a ≡ get_or xs i 0 → b ≡ get_or ys i 0
+    → drop i (zip xs ys) ≡ (a, b) ∷ drop (i + 1) (zip xs ys)
+next_entry xs ys i size a b low is first second =
+    let inside : i < length (zip xs ys) = omega (arith, low, is, length-zip xs ys) in
+    let pair : get_or (zip xs ys) i (0, 0) ≡ (a, b) = get_or-zip xs ys i (0, 0) (omega (arith, low, is)) (omega (arith, low, is)) ∙ (λ j. (sym first j, sym second j)) in
+    drop-cons (zip xs ys) i (0, 0) inside ∙ ap (λ e. e ∷ drop (suc i) (zip xs ys)) pair ∙ ap (λ n. (a, b) ∷ drop n (zip xs ys)) e
   where
     e : suc i ≡ i + 1
     e = omega arith
 
--- the pairs of two lists from i on
-pub next_pair : {Y : Type 0} (text : Y → List ℕ) (f : ℕ × ℕ → Y) (xs ys : List ℕ) (i size a b : ℕ) → i < size → size ≡ min (length xs) (length ys)
-    → a ≡ get_or xs i 0 → b ≡ get_or ys i 0
-    → flat_map text (map f (drop i (zip xs ys))) ≡ text (f (a, b)) ++ flat_map text (map f (drop (i + 1) (zip xs ys)))
-next_pair text f xs ys i size a b low is first second =
-    let inside : i < length (zip xs ys) = omega (arith, low, is, length-zip xs ys) in
-    let pair : (a, b) ≡ get_or (zip xs ys) i (0, 0) = (λ j. (first j, second j)) ∙ sym (get_or-zip xs ys i (0, 0) (omega (arith, low, is)) (omega (arith, low, is))) in
-    next_item text f (zip xs ys) i (a, b) inside (pair ∙ get_or_default (zip xs ys) i (0, 0) (a, b) inside)
-
 -- the items of a list from i on, by what is seen of them
-pub next_seen : {X Y Z : Type 0} (text : Z → List ℕ) (f : Y → Z) (seen : X → Y) (xs : List X) (i : ℕ) (x : X) → i < length xs → x ≡ get_or xs i x
+pub next_seen : {X Y Z W : Type 0} (text : Z → List W) (f : Y → Z) (seen : X → Y) (xs : List X) (i : ℕ) (x : X) → i < length xs → x ≡ get_or xs i x
     → flat_map text (map f (map seen (drop i xs))) ≡ text (f (seen x)) ++ flat_map text (map f (map seen (drop (i + 1) xs)))
 next_seen text f seen xs i x low is =
     ap (λ ys. flat_map text (map f (map seen ys))) (drop-cons xs i x low ∙ ap (λ y. y ∷ drop (suc i) xs) (sym is) ∙ ap (λ n. x ∷ drop n xs) e)

@@ -3,7 +3,6 @@ use Rattle.std.proofs.Common.{rules, ◌≡◌, ℕ, ◌+◌, ◌*◌, ◌<◌, 
 use Rattle.std.specs.List.{AllByRecursion, enumerate_from, slice_index_or}
 use Rattle.std.proofs.lemmas.List.{length-map, get_or-map, take_more}
 use Rattle.std.proofs.lemmas.List.Elements.{All-from_recursion}
-use Rattle.std.proofs.lemmas.List.Concat.{flat_map-append}
 use Rattle.std.proofs.lemmas.Option.{slice_get-get_or, slice_get_within}
 use Rattle.std.proofs.lemmas.Slice.Zip.{seconds-zip}
 use Rattle.wf_model.specs.Lists.{below}
@@ -26,8 +25,8 @@ use Rattle.wf_formula.specs.Patterns.{Entry, Pattern, is_forbidden, minimal_patt
 use Rattle.wf_formula.specs.Encoding.{denied, clauses_of, at_least_one, question}
 use Rattle.wf_formula.specs.Dimacs.{clause_text, comments, comments_with, formula_text, numbering_line}
 use Rattle.wf_formula.proofs.Lemmas.{each_below, IsEntry, each_minimal}
-use Rattle.wf_cnf.specs.Clauses.{denied_at, points_in, patterns_in, clauses_at, clauses_on, executions_text, patterns_of, points_text, HasPoints, AreCovered}
-use Rattle.wf_cnf.specs.Exclusions.{exclusions_at, exclusions_on, exclusions_text, Fits, line_in, part_text, sets_in}
+use Rattle.wf_cnf.specs.Clauses.{denied_at, points_in, patterns_in, clauses_at, clauses_on, patterns_of, HasPoints, AreCovered}
+use Rattle.wf_cnf.specs.Exclusions.{clauses_with, exclusions_at, exclusions_on, Fits, line_in, part_text, sets_in}
 use Rattle.wf_cnf.specs.Head.{head_text}
 use Rattle.wf_cnf.specs.Questions.{text_after}
 use Rattle.wf_cnf.specs.declared.exclusions.Branch.{Branch}
@@ -125,7 +124,7 @@ clauses_here t r b e h low =
     ∙ (λ i. map (denied (values t) scope) (minimal_patterns (sym long i) (values t) at.rule.tuples))
     ∙ ap (clauses_of (values t)) (sym (got (problem_of t r).constraints e k no_constraint at.there))
 
-pub clauses_same : (t : Task) (r : ℕ) (b : Built) → IsProtocol t r b → clauses_on (values t) (patterns_of t) b ≡ flat_map (clauses_of (values t)) (problem_of t r).constraints
+clauses_same : (t : Task) (r : ℕ) (b : Built) → IsProtocol t r b → clauses_on (values t) (patterns_of t) b ≡ flat_map (clauses_of (values t)) (problem_of t r).constraints
 clauses_same t r b h =
     let ks = (problem_of t r).constraints in
     let n = length b.scopes in
@@ -139,6 +138,14 @@ clauses_same t r b h =
 pub exclusions_same : (t : Task) (r : ℕ) (b : Built) (all : List ℕ) (box : Box) → IsProtocol t r b → all ≡ values t → length box ≡ length b.points
     → exclusions_on all box ≡ exclusions (problem_of t r) box
 exclusions_same t r b all box h all_is long = λ i. flat_map (exclusions_at (all_is i) box) (below ((long ∙ ap length h.points_are) i))
+
+-- the clauses that are given are those of the question, and what rules out what the box has not
+pub given_are : (t : Task) (r : ℕ) (b : Built) (all : List ℕ) (patterns : List (List Pattern)) (box : Box) → IsProtocol t r b → all ≡ values t → patterns ≡ patterns_of t
+    → clauses_with all patterns b box ≡ (question t r).clauses ++ exclusions_on (values t) box
+given_are t r b all patterns box h all_is patterns_are =
+    let on = (λ i. clauses_on (all_is i) (patterns_are i) b) ∙ clauses_same t r b h in
+    (λ i. map (at_least_one (all_is i)) (below (length (h.points_are i))) ++ (on i ++ exclusions_on (all_is i) box))
+    ∙ sym (append_assoc (map (at_least_one (values t)) (below (problem_of t r).points)) (flat_map (clauses_of (values t)) (problem_of t r).constraints) (exclusions_on (values t) box))
 
 -- a branch that fits has as few points
 pub few_sets : (branch : Option Branch) (b : Built) → Fits branch b → length b.points ≤ most_points → length (sets_in branch) ≤ most_points
@@ -179,22 +186,23 @@ module _ (t : Task) (r : ℕ) (b : Built) (n : Counts) (all : List ℕ) (pattern
     clauses = length formula.clauses;
   }
 
-  on : clauses_on all patterns b ≡ flat_map (clauses_of (values t)) (problem_of t r).constraints
-  on = (λ i. clauses_on (all_is i) (patterns_are i) b) ∙ clauses_same t r b h
-
   points_are : length b.points ≡ (problem_of t r).points
   points_are = ap length h.points_are
 
   clauses_are : n.clauses ≡ length formula.clauses
   unfolding formula
   clauses_are =
+      let first = map (at_least_one all) (below (length b.points)) in
+      let second = clauses_on all patterns b in
       counts.clauses
-      ∙ (λ i. (points_are i + length (on i)) + length (exclusions_on (all_is i) box))
-      ∙ ap (λ m. m + length (exclusions_on (values t) box))
-      (ap (λ m. m + length (flat_map (clauses_of (values t)) (problem_of t r).constraints))
-      (sym (length-map (below (problem_of t r).points) (at_least_one (values t)) ∙ length-below (problem_of t r).points))
-      ∙ sym (length-append (map (at_least_one (values t)) (below (problem_of t r).points)) (flat_map (clauses_of (values t)) (problem_of t r).constraints)))
-      ∙ sym (length-append (question t r).clauses (exclusions_on (values t) box))
+      ∙ ap (λ m. (m + length second) + length (exclusions_on all box)) (sym (length-map (below (length b.points)) (at_least_one all) ∙ length-below (length b.points)))
+      ∙ sum_of (length first) (length second) (length (exclusions_on all box))
+      ∙ ap (λ m. length first + m) (sym (length-append second (exclusions_on all box)))
+      ∙ sym (length-append first (second ++ exclusions_on all box))
+      ∙ ap length (given_are t r b all patterns box h all_is patterns_are)
+    where
+      sum_of : (k m n : ℕ) → (k + m) + n ≡ k + (m + n)
+      sum_of k m n = omega arith
 
   counts_are : n ≡ of_question
   unfolding formula of_question
@@ -207,21 +215,10 @@ module _ (t : Task) (r : ℕ) (b : Built) (n : Counts) (all : List ℕ) (pattern
     clauses = clauses_are i;
   }
 
-  body_is : points_text all (length b.points) ++ (executions_text all patterns b ++ exclusions_text all box) ≡ flat_map clause_text formula.clauses
-  unfolding formula
-  body_is =
-      let first = map (at_least_one (values t)) (below (problem_of t r).points) in
-      let second = flat_map (clauses_of (values t)) (problem_of t r).constraints in
-      let third = exclusions_on (values t) box in
-      (λ i. flat_map clause_text (map (at_least_one (all_is i)) (below (points_are i))) ++ (flat_map clause_text (on i) ++ exclusions_text (all_is i) box))
-      ∙ sym (append_assoc (flat_map clause_text first) (flat_map clause_text second) (flat_map clause_text third))
-      ∙ ap (λ bs. bs ++ flat_map clause_text third) (sym (flat_map-append clause_text first second))
-      ∙ sym (flat_map-append clause_text (first ++ second) third)
-
   whole_text : (head : List ℕ) → head ≡ head_text n further all → text_after head all patterns b box ≡ comments_with further t r ++ formula_text formula
   unfolding formula of_question
   whole_text head is =
-      (λ i. (is ∙ (λ j. head_text (counts_are j) further (all_is j))) i ++ body_is i)
+      (λ i. (is ∙ (λ j. head_text (counts_are j) further (all_is j))) i ++ flat_map clause_text (given_are t r b all patterns box h all_is patterns_are i))
       ∙ regrouped (line (codes "c wfcheck formula 1") []) (line (codes "c processes") (t.processes ∷ [])) (line (codes "c rounds") (r ∷ []))
       (line (codes "c points") (length (points t r) ∷ [])) (line (codes "c executions") (length (executions t r) ∷ []))
       further (line (codes "c values") (values t)) (numbering_line (values t))

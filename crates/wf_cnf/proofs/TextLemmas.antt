@@ -6,16 +6,20 @@ use Rattle.std.proofs.lemmas.Bool.{cases_Bool, cases_order, lt-ltb, le-ltb, eq-e
 use Rattle.std.proofs.lemmas.List.{append-nil, map-append, get_or-map, length-map}
 use Rattle.std.proofs.lemmas.List.Concat.{flat_map-append}
 use Rattle.std.proofs.lemmas.Slice.Zip.{length-zip, get_or-zip}
+use Rattle.wf_model.specs.Limits.{most_points}
 use Rattle.wf_model.specs.Lists.{below, has}
 use Rattle.wf_model.proofs.Lemmas.{Ascends, below_next, length-below}
 use Rattle.wf_complex.proofs.Lemmas.{got}
 use Rattle.wf_set.specs.Sets.{values_in, holds}
 use Rattle.wf_set.proofs.Lemmas.{values_ascend}
 use Rattle.wf_clauses.specs.Formula.{Clause}
+use Rattle.wf_rup.specs.Codes.{most_variables}
 use Rattle.wf_formula.specs.Patterns.{Pattern}
-use Rattle.wf_formula.specs.Encoding.{rank_in}
+use Rattle.wf_formula.specs.Encoding.{rank_in, variable}
 use Rattle.wf_formula.proofs.Lemmas.{rank_most}
+use Rattle.wf_formula.specs.Dimacs.{clause_text, literal_text}
 use Rattle.wf_cnf.specs.Clauses.{HasPoints}
+use Rattle.wf_cnf.specs.Tokens.{clause_tokens, formula_tokens, token_text, tokens_text}
 
 -- ---- numbers
 
@@ -96,7 +100,17 @@ rank_there f n a ranks is low =
     number_at c (suc n) zero h = omega arith
     number_at c (suc n) (suc i) h = let e = number_at (c + 1) n i (omega (arith, h)) in omega (arith, e)
 
--- ---- one clause more
+-- ---- the text of a formula's tokens
+
+text_of_clause : (clause : Clause) → tokens_text (clause_tokens clause) ≡ clause_text clause
+text_of_clause [] = refl
+text_of_clause (literal ∷ clause) =
+    ap (λ bs. literal_text literal ++ bs) (text_of_clause clause) ∙ sym (append_assoc (literal_text literal) (flat_map literal_text clause) (48 ∷ 10 ∷ []))
+
+pub text_of_tokens : (clauses : List Clause) → tokens_text (formula_tokens clauses) ≡ flat_map clause_text clauses
+text_of_tokens [] = refl
+text_of_tokens (clause ∷ clauses) =
+    flat_map-append token_text (clause_tokens clause) (formula_tokens clauses) ∙ (λ i. text_of_clause clause i ++ text_of_tokens clauses i)
 
 -- ---- one literal more
 
@@ -108,10 +122,6 @@ entry_at places values points at size low is h =
     let second : at < length values = omega (arith, low, is) in
     let e = get_or-zip places values at (0, 0) first second in
     subst (λ (p : ℕ × ℕ). p.0 < length points) e (h at (0, 0) inside)
-
--- a text that is put, and then the end of a clause
-pub ended : (start before after literals : List ℕ) → after ≡ before ++ 48 ∷ 10 ∷ [] → before ≡ start ++ literals → after ≡ start ++ (literals ++ 48 ∷ 10 ∷ [])
-ended start before after literals put so_far = put ∙ ap (λ bs. bs ++ 48 ∷ 10 ∷ []) so_far ∙ append_assoc start literals (48 ∷ 10 ∷ [])
 
 -- ---- the patterns of an execution
 
@@ -131,3 +141,6 @@ pub product_upto : (points width : ℕ) → points ≤ 2000000 → width ≤ 256
 product_upto points width h k =
     let a : points * width ≤ 2000000 * width = mul-le-mul_right {m = points} {n = 2000000} width h in
     omega (arith, a, k)
+
+pub few_variables : (set : List ℕ) (point a : ℕ) → point < most_points → variable (values_in set) point a ≤ most_variables
+few_variables set point a low = omega (arith, product_few point (length (values_in set)) low (few_values set), few_ranks set a)

@@ -8,8 +8,7 @@ use Rattle.wf_model.specs.Task.{Task, values}
 use Rattle.wf_complex.specs.Protocol.{Built}
 use Rattle.wf_clauses.specs.Formula.{Clause, neg}
 use Rattle.wf_formula.specs.Patterns.{Pattern, minimal_patterns}
-use Rattle.wf_formula.specs.Encoding.{variable, at_least_one}
-use Rattle.wf_formula.specs.Dimacs.{clause_text}
+use Rattle.wf_formula.specs.Encoding.{variable}
 
 -- the points have not all values of the pattern
 abbrev pub denied_at : List ℕ → List ℕ → Pattern → Clause
@@ -28,18 +27,6 @@ clauses_at values patterns b e = map (denied_at values (points_in b e)) (pattern
 -- those of all executions
 abbrev pub clauses_on : List ℕ → List (List Pattern) → Built → List Clause
 clauses_on values patterns b = flat_map (clauses_at values patterns b) (below (length b.scopes))
-
--- the text of those of all executions
-abbrev pub executions_text : List ℕ → List (List Pattern) → Built → List ℕ
-executions_text values patterns b = flat_map clause_text (clauses_on values patterns b)
-
--- the text of the clauses of an execution with these points
-abbrev pub denied_text : List ℕ → List ℕ → List Pattern → List ℕ
-denied_text values points patterns = flat_map clause_text (map (denied_at values points) patterns)
-
--- the text of the clauses of so many points
-abbrev pub points_text : List ℕ → ℕ → List ℕ
-points_text values n = flat_map clause_text (map (at_least_one values) (below n))
 
 -- the patterns of each simplex of the task
 abbrev pub patterns_of : Task → List (List Pattern)

@@ -1,5 +1,5 @@
 -- The clauses that rule out what a branch has not, and the question of a task or of a branch.
-use Rattle.std.specs.Prelude.{◌≡◌, ℕ, List, [], map, flat_map, length, Option, Some, None}
+use Rattle.std.specs.Prelude.{◌≡◌, ℕ, List, [], ◌++◌, map, flat_map, length, Option, Some, None}
 use Rattle.wf_model.specs.Lists.{below}
 use Rattle.wf_model.specs.Task.{Task}
 use Rattle.wf_model.specs.Box.{Box}
@@ -7,7 +7,10 @@ use Rattle.wf_complex.specs.Protocol.{Built}
 use Rattle.wf_set.specs.Sets.{values_in}
 use Rattle.wf_clauses.specs.Formula.{Clause}
 use Rattle.wf_formula.specs.Branches.{box_text, branch_line, missing, ruled_out}
-use Rattle.wf_formula.specs.Dimacs.{clause_text, question_text}
+use Rattle.wf_formula.specs.Dimacs.{question_text}
+use Rattle.wf_formula.specs.Encoding.{at_least_one}
+use Rattle.wf_formula.specs.Patterns.{Pattern}
+use Rattle.wf_cnf.specs.Clauses.{clauses_on}
 use Rattle.wf_cnf.specs.declared.exclusions.Branch.{Branch}
 
 -- those of a point
@@ -18,11 +21,13 @@ exclusions_at values box v = map (ruled_out values v) (missing values box v)
 abbrev pub exclusions_on : List ℕ → Box → List Clause
 exclusions_on values box = flat_map (exclusions_at values box) (below (length box))
 
--- their text
-abbrev pub exclusions_text : List ℕ → Box → List ℕ
-exclusions_text values box = flat_map clause_text (exclusions_on values box)
-
 -- ---- a question, of a branch or of the whole
+
+-- all clauses: those of the points, those of the executions, and those that rule out what a box has
+-- not
+abbrev pub clauses_with : List ℕ → List (List Pattern) → Built → Box → List Clause
+clauses_with values patterns b box =
+    map (at_least_one values) (below (length b.points)) ++ (clauses_on values patterns b ++ exclusions_on values box)
 
 -- the sets of a branch
 abbrev pub sets_in : Option Branch → List (List ℕ)

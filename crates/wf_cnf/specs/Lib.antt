@@ -10,3 +10,6 @@ pub mod Exclusions
 pub mod Reading
 pub mod Head
 pub mod Questions
+pub mod Posed
+pub mod Tokens
+pub mod TakingLaws

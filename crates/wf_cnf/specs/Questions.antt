@@ -1,20 +1,20 @@
 -- What a clause sees of a question, and what each question keeps.
-use Rattle.std.specs.Prelude.{◌≡◌, ◌≤◌, ℕ, List, [], ◌++◌, map, length, string_bytes}
+use Rattle.std.specs.Prelude.{◌≡◌, ◌≤◌, ℕ, List, [], ◌++◌, flat_map, map, length, string_bytes}
 use Rattle.wf_model.specs.Limits.{most_points}
 use Rattle.wf_model.specs.Box.{Box}
 use Rattle.wf_set.specs.Sets.{values_in}
 use Rattle.wf_formula.specs.Patterns.{Pattern}
+use Rattle.wf_formula.specs.Dimacs.{clause_text}
 use Rattle.wf_complex.specs.Protocol.{Built}
 use Rattle.wf_cnf.specs.Patterns.{patterns_seen}
 use Rattle.wf_cnf.specs.Variables.{IsNumbered}
-use Rattle.wf_cnf.specs.Clauses.{AreCovered, executions_text, points_text}
-use Rattle.wf_cnf.specs.Exclusions.{exclusions_text, sets_in}
+use Rattle.wf_cnf.specs.Clauses.{AreCovered}
+use Rattle.wf_cnf.specs.Exclusions.{clauses_with, sets_in}
 use Rattle.wf_cnf.specs.declared.question.Question.TheInside.{Inside}
 
 -- the whole text, after a head, with the clauses that rule out what a box has not
 abbrev pub text_after : List ℕ → List ℕ → List (List Pattern) → Built → Box → List ℕ
-text_after head values patterns b box =
-    head ++ (points_text values (length b.points) ++ (executions_text values patterns b ++ exclusions_text values box))
+text_after head values patterns b box = head ++ flat_map clause_text (clauses_with values patterns b box)
 
 abbrev pub question_seen : Inside → List ℕ
 question_seen q =

@@ -1,18 +1,15 @@
-//! The clauses that rule out what a branch has not, as text.
+//! The clauses that rule out what a branch has not.
 
-ghost use Rattle.std.specs.Prelude.{◌≡◌, ◌<◌, ◌≤◌, ◌+◌, IfSome, flat_map, length, map};
+ghost use Rattle.std.specs.Prelude.{◌≡◌, ◌<◌, ◌≤◌, ◌+◌, IfSome, length, map};
 ghost use Rattle.wf_model.specs.Limits.{most_points};
-ghost use Rattle.wf_io.specs.Ends.{CanWrite};
-ghost use Rattle.wf_io.specs.Texts.{PutsText};
 ghost use Rattle.wf_set.specs.Sets.{values_in};
 ghost use Rattle.wf_formula.specs.Branches.{missing, ruled_out};
-ghost use Rattle.wf_formula.specs.Dimacs.{clause_text};
 ghost use Rattle.wf_cnf.specs.Variables.{IsNumbered};
-ghost use Rattle.wf_cnf.specs.Exclusions.{exclusions_on, exclusions_text, sets_in};
+ghost use Rattle.wf_cnf.specs.Exclusions.{exclusions_on, sets_in};
+ghost use Rattle.wf_cnf.specs.Tokens.{clause_tokens, formula_tokens};
 
+use crate::taker::TokenTaker;
 use crate::variables::Variables;
-use std::io::Write;
-use wf_io::{Page, Sink, WriteFault};
 use wf_set::{Mask, count, difference, split_first};
 
 /// A part of a question: a branch, by its number from 0, of so many, and the
@@ -60,64 +57,63 @@ pub(crate) fn count_exclusions(clauses: u64, values: Mask, sets: &[Mask]) -> Opt
     Some(total)
 }
 
-/// Adds the clauses that rule out what these sets have not at the points.
-pub(crate) fn put_exclusions<W: Write>(
-    page: &mut Page,
-    sink: &mut Sink<W>,
+/// Gives the clauses that rule out what these sets have not at the points.
+pub(crate) fn give_exclusions<T, K: TokenTaker<T>>(
+    taker: &mut K,
+    to: &mut T,
     variables: &Variables,
     sets: &[Mask],
-) -> Result<(), WriteFault>
-    requires open { CanWrite sink.old }
+) -> Result<(), K::Fault>
+    requires ready { K.is_open to.old }
     requires numbered { IsNumbered variables.now }
     requires few { length sets.now ≤ most_points }
-    ensures { PutsText sink.old page.old sink.new page.new
-        (exclusions_text (values_in variables.now.values) (map values_in sets.now)) result }
+    ensures { K.takes (formula_tokens (exclusions_on (values_in variables.now.values)
+        (map values_in sets.now))) taker.old to.old taker.new to.new result }
 {
     for point in 0..sets.len() {
         let missing = missing_in(variables.values, sets, point);
-        put_missing(page, sink, variables, point as u32, missing)?;
+        give_missing(taker, to, variables, point as u32, missing)?;
     }
     Ok(())
 }
 
-/// Adds the clauses that rule out these values at a point.
-fn put_missing<W: Write>(
-    page: &mut Page,
-    sink: &mut Sink<W>,
+/// Gives the clauses that rule out these values at a point.
+fn give_missing<T, K: TokenTaker<T>>(
+    taker: &mut K,
+    to: &mut T,
     variables: &Variables,
     point: u32,
     missing: Mask,
-) -> Result<(), WriteFault>
-    requires open { CanWrite sink.old }
+) -> Result<(), K::Fault>
+    requires ready { K.is_open to.old }
     requires numbered { IsNumbered variables.now }
     requires point { point < most_points }
-    ensures { let values = values_in variables.now.values in
-        PutsText sink.old page.old sink.new page.new
-        (flat_map clause_text (map (ruled_out values point) (values_in missing))) result }
+    ensures { K.takes (formula_tokens (map (ruled_out (values_in variables.now.values) point)
+        (values_in missing))) taker.old to.old taker.new to.new result }
 {
     let mut left = missing;
     'values: while let Some(next) = split_first(left) {
         let (value, others) = next;
         left = others;
-        put_ruled_out(page, sink, variables, point, value)?;
+        give_ruled_out(taker, to, variables, point, value)?;
     }
     Ok(())
 }
 
-/// Adds the clause that rules out a value at a point.
-fn put_ruled_out<W: Write>(
-    page: &mut Page,
-    sink: &mut Sink<W>,
+/// Gives the clause that rules out a value at a point.
+fn give_ruled_out<T, K: TokenTaker<T>>(
+    taker: &mut K,
+    to: &mut T,
     variables: &Variables,
     point: u32,
     value: u8,
-) -> Result<(), WriteFault>
-    requires open { CanWrite sink.old }
+) -> Result<(), K::Fault>
+    requires ready { K.is_open to.old }
     requires numbered { IsNumbered variables.now }
     requires point { point < most_points }
-    ensures { PutsText sink.old page.old sink.new page.new
-        (clause_text (ruled_out (values_in variables.now.values) point value)) result }
+    ensures { K.takes (clause_tokens (ruled_out (values_in variables.now.values) point value))
+        taker.old to.old taker.new to.new result }
 {
-    variables.put_not(page, sink, point, value)?;
-    page.put(sink, b"0\n")
+    taker.negative(to, variables.number(point, value))?;
+    taker.end_clause(to)
 }

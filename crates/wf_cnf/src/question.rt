@@ -1,30 +1,27 @@
 //! The question of a task.
 
-ghost use Rattle.std.specs.Prelude.{◌≡◌, ◌≤◌, [], IfOk, length, map};
-ghost use Rattle.wf_model.specs.Limits.{most_points};
+ghost use Rattle.std.specs.Prelude.{◌≡◌, IfOk, length, map};
 ghost use Rattle.wf_complex.specs.Protocol.{IsProtocol};
 ghost use Rattle.wf_set.specs.Sets.{values_in};
 ghost use Rattle.wf_formula.specs.Branches.{box_text};
 ghost use Rattle.wf_formula.specs.Dimacs.{question_text};
 ghost use Rattle.wf_io.specs.Ends.{CanWrite};
-ghost use Rattle.wf_io.specs.Texts.{PutsText, WritesText};
+ghost use Rattle.wf_io.specs.Texts.{WritesText};
 ghost use Rattle.wf_cnf.specs.Patterns.{patterns_seen};
-ghost use Rattle.wf_cnf.specs.Clauses.{AreCovered, patterns_of};
-ghost use Rattle.wf_cnf.specs.Questions.{text_after};
-ghost use Rattle.wf_cnf.specs.Variables.{IsNumbered};
+ghost use Rattle.wf_cnf.specs.Clauses.{patterns_of};
 ghost use Rattle.wf_cnf.specs.Exclusions.{Fits, part_text};
 
-use crate::clauses::{count_clauses, put_executions, put_points};
-use crate::exclusions::{Branch, count_exclusions, put_exclusions, sets_of};
+use crate::clauses::count_clauses;
+use crate::exclusions::{Branch, count_exclusions, sets_of};
 use crate::head::Counts;
 use crate::patterns::Patterns;
+use crate::source::{ClauseSource, give_clauses};
 use crate::variables::Variables;
 use std::alloc::{AllocError, Global};
 use std::io::Write;
 use std::marker::Model;
 use wf_complex::Protocol;
 use wf_io::{Page, Sink, WriteFault};
-use wf_set::Mask;
 use wf_task::Task;
 
 /// The question whether a task has a decision map over its protocol complex,
@@ -40,17 +37,6 @@ pub struct Question<'a> {
     // those of each input simplex
     patterns: Vec<Patterns>,
     page: Page,
-}
-
-/// What the clauses of a question are made of.
-#[derive(Clone, Copy)]
-struct ClauseSource<'a> {
-    variables: &'a Variables,
-    // those of each input simplex
-    patterns: &'a [Patterns],
-    protocol: &'a Protocol,
-    // what is left of each point, where the question is that of a branch
-    sets: &'a [Mask],
 }
 
 impl<'a> Model for Question<'a> {
@@ -148,30 +134,9 @@ impl<'a> Question<'a> {
             protocol: self.protocol,
             sets: sets_of(self.branch),
         };
-        put_clauses(&mut page, sink, &source)?;
+        give_clauses(&mut page, sink, &source)?;
         page.finish(sink)
     }
-}
-
-/// Adds all clauses: of the points, of the executions, and of what the sets rule out.
-fn put_clauses<W: Write>(
-    page: &mut Page,
-    sink: &mut Sink<W>,
-    source: &ClauseSource,
-) -> Result<(), WriteFault>
-    requires open { CanWrite sink.old }
-    requires numbered { IsNumbered source.now.variables.now }
-    requires covered { let s = source.now in
-        AreCovered (map patterns_seen s.patterns.now) s.protocol.now }
-    requires few { length source.now.sets.now ≤ most_points }
-    ensures { let s = source.now in PutsText sink.old page.old sink.new page.new
-        (text_after [] (values_in s.variables.now.values) (map patterns_seen s.patterns.now)
-        s.protocol.now (map values_in s.sets.now)) result }
-{
-    let variables = source.variables;
-    put_points(page, sink, variables, source.protocol.points())?;
-    put_executions(page, sink, variables, source.patterns, source.protocol)?;
-    put_exclusions(page, sink, variables, source.sets)
 }
 
 /// The minimal forbidden patterns of each input simplex, in order. Refused for want of memory

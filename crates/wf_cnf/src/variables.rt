@@ -1,18 +1,12 @@
 //! The variables of a formula: one for each value at each point.
 
-ghost use Rattle.std.specs.Prelude.{◌≡◌, ◌<◌, ◌≤◌, ◌*◌, ◌++◌, ◌∷◌, [], IfOk, decimal, length};
+ghost use Rattle.std.specs.Prelude.{◌≡◌, ◌<◌, ◌≤◌, ◌*◌, IfOk, length};
 ghost use Rattle.wf_model.specs.Limits.{most_points};
-ghost use Rattle.wf_io.specs.Ends.{CanWrite};
-ghost use Rattle.wf_io.specs.Texts.{PutsText};
 ghost use Rattle.wf_set.specs.Sets.{values_in};
-ghost use Rattle.wf_clauses.specs.Formula.{pos, neg};
 ghost use Rattle.wf_formula.specs.Encoding.{variable};
-ghost use Rattle.wf_formula.specs.Dimacs.{literal_text};
 ghost use Rattle.wf_cnf.specs.Variables.{IsNumbered};
 
 use std::alloc::{AllocError, Global};
-use std::io::Write;
-use wf_io::{Page, Sink, WriteFault};
 use wf_set::{Mask, count, holds};
 
 /// The values of a problem, and what numbers its variables.
@@ -65,49 +59,4 @@ impl Variables {
     {
         points * self.width
     }
-
-    /// Adds the literal that a point has a value.
-    pub(crate) fn put<W: Write>(
-        &self,
-        page: &mut Page,
-        sink: &mut Sink<W>,
-        point: u32,
-        value: u8,
-    ) -> Result<(), WriteFault>
-        requires open { CanWrite sink.old }
-        requires numbered { IsNumbered self.now }
-        requires point { point < most_points }
-        ensures { PutsText sink.old page.old sink.new page.new
-            (literal_text (pos (variable (values_in self.now.values) point value))) result }
-    {
-        put_number(page, sink, self.number(point, value))
-    }
-
-    /// Adds the literal that a point has not a value.
-    pub(crate) fn put_not<W: Write>(
-        &self,
-        page: &mut Page,
-        sink: &mut Sink<W>,
-        point: u32,
-        value: u8,
-    ) -> Result<(), WriteFault>
-        requires open { CanWrite sink.old }
-        requires numbered { IsNumbered self.now }
-        requires point { point < most_points }
-        ensures { PutsText sink.old page.old sink.new page.new
-            (literal_text (neg (variable (values_in self.now.values) point value))) result }
-    {
-        page.put(sink, b"-")?;
-        put_number(page, sink, self.number(point, value))
-    }
-}
-
-/// Adds a number and a space.
-fn put_number<W: Write>(page: &mut Page, sink: &mut Sink<W>, number: u32) -> Result<(), WriteFault>
-    requires { CanWrite sink.old }
-    ensures { PutsText sink.old page.old sink.new page.new
-        (decimal number ++ 32 ∷ []) result }
-{
-    page.put_number(sink, u64::from(number))?;
-    page.put(sink, b" ")
 }

@@ -13,9 +13,9 @@ use crate::pieces::read_proof;
 use crate::readers::{ClausalProofReader, HintedProofReader};
 use std::alloc::Global;
 use std::io::Read;
+use wf_cnf::ClauseTaker;
 use wf_io::Source;
 use wf_lrat::HintChecker;
-use wf_posing::ClauseTaker;
 use wf_run::RunFault;
 use wf_rup::Checker;
 

@@ -7,8 +7,8 @@ use crate::format::ProofFormat;
 use crate::listener::ProofListener;
 use crate::verify::accepted_text;
 use std::io::Read;
+use wf_cnf::pose;
 use wf_io::Source;
-use wf_posing::pose;
 use wf_report::Body;
 use wf_run::{Answered, SecondText, TextSubject};
 

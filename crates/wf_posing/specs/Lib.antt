@@ -1,2 +1,0 @@
--- What the crate's own code and proofs use.
-pub mod Posed
