@@ -6,7 +6,7 @@ use Rattle.clap.specs.declared.parser.matches.ArgMatches.{ArgMatches}
 use Rattle.clap.proofs.OnLiterals.{clap_on_literals}
 use Rattle.wf_words.specs.Asked.{Answers, IsRefusal, IsTaken, is_negative}
 use Rattle.wf_words.specs.declared.fault.WordsFault.{WordsFault}
-use Rattle.wf_words.proofs.ParsedWords as words
+use Rattle.wf_words.proofs.Lemmas as words
 use Rattle.wf_checker.specs.Asked.{check_asked, job_asked}
 use Rattle.wf_checker.specs.CommandLine.{command_line}
 use Rattle.wf_checker.specs.declared.job.CheckJob.{CheckJob}

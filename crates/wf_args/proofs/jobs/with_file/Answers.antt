@@ -1,6 +1,6 @@
 use Rattle.std.proofs.Common.{sym}
 use Rattle.wf_args.specs.declared.asked.Job.TheVariants.{WithFile}
-use Rattle.wf_words.proofs.ParsedWords.{on_file}
+use Rattle.wf_words.proofs.Lemmas.{on_file}
 use Rattle.wf_args.proofs.jobs.with_file.Goals as goal
 
 pub returns-in_ok-from_str-in-Ok-clause-asked : goal.returns-in_ok-from_str-in-Ok-clause-asked

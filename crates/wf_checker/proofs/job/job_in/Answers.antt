@@ -1,6 +1,6 @@
 use Rattle.clap.specs.Words.{found_of, rows_of}
 use Rattle.wf_words.specs.Given.{task_of}
-use Rattle.wf_words.proofs.ParsedWords.{on_file}
+use Rattle.wf_words.proofs.Lemmas.{on_file}
 use Rattle.wf_checker.specs.Asked.{check_in}
 use Rattle.wf_checker.proofs.job.job_in.Goals as goal
 
