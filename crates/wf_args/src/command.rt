@@ -23,7 +23,7 @@ const PROOFS: &str =
 
 /// What the help of `obstruction` says of the answers.
 const OBSTRUCTIONS: &str =
-    "Status 0: an obstruction is written; verify accepts it, and explain tells it in words.\nStatus 1: none was found, and standard error tells what was tried. The task may still have no decision map.\nExample: wfcheck obstruction < gallery/tasks/consensus-2.json > never.txt";
+    "Status 0: an obstruction is written; verify accepts it, and explain writes it in words.\nStatus 1: none was found, and standard error says what was tried. The task may still have no decision map.\nExample: wfcheck obstruction < gallery/tasks/consensus-2.json > never.txt";
 
 /// What the help of `solve` says of `ask`, and an example.
 const SOLVING: &str =
@@ -80,7 +80,7 @@ fn solve_command<'a>(alloc: Global) -> Result<Command<'a>, AllocError>
         flag(
             alloc,
             "verdict",
-            "Leave out the lines of a refutation; not beside --least",
+            "Leave out the lines of a refutation; not with --least",
         ),
     );
     let command = taking(
@@ -88,7 +88,7 @@ fn solve_command<'a>(alloc: Global) -> Result<Command<'a>, AllocError>
         flag(
             alloc,
             "least",
-            "With a map, write the lines that show that no decision map is smaller; not beside --verdict",
+            "With a map, write the lines that show that no decision map is smaller; not with --verdict",
         ),
     );
     let command = taking(
@@ -96,7 +96,7 @@ fn solve_command<'a>(alloc: Global) -> Result<Command<'a>, AllocError>
         flag(
             alloc,
             "account",
-            "Tell on standard error how many branches were searched, and how many were cut; not beside --branch",
+            "Print on standard error how many branches were searched, and how many were cut; not with --branch",
         ),
     );
     let command = taking(
@@ -104,7 +104,7 @@ fn solve_command<'a>(alloc: Global) -> Result<Command<'a>, AllocError>
         flag(
             alloc,
             "progress",
-            "Tell on standard error how the search goes on, and how many branches are settled",
+            "Print on standard error how the search goes on, and how many branches are settled",
         ),
     );
     taking(command, branch(alloc))
@@ -125,7 +125,7 @@ fn verify_command<'a>(alloc: Global) -> Result<Command<'a>, AllocError>
         optional(
             alloc,
             "rounds",
-            "How many rounds the report is to be for: one for others is refused, and the answer tells them; an obstruction is for all",
+            "Accept a report only if it is about this many rounds, and name them in the answer. An obstruction fits every number",
         ),
     );
     let command = taking(command, branch(alloc));
@@ -134,7 +134,7 @@ fn verify_command<'a>(alloc: Global) -> Result<Command<'a>, AllocError>
         flag(
             alloc,
             "long",
-            "Check a report while it is read, whatever its length; not an obstruction, and not beside --branch",
+            "Check a report while it is read, whatever its length; not an obstruction, and not with --branch",
         ),
     )
 }
@@ -157,19 +157,19 @@ fn points_command<'a>(alloc: Global) -> Result<Command<'a>, AllocError>
     let command = subcommand(
         alloc,
         "points",
-        "Tell in words who saw what at each point of a task's protocol complex, with --rounds, or with --task also what a report decides there",
+        "Print in words who saw what at each point of a task's protocol complex, with --rounds, or with --task also what a report decides there",
         "Example: wfcheck points --task examples/path-3.json < map.txt",
     )
     .arg(optional(
         alloc,
         "rounds",
-        "How many rounds of immediate snapshots, 0 to 8, where the task is on standard input",
+        "How many rounds of immediate snapshots, 0 to 8, if the task is on standard input",
     ));
     taking(
         command,
         task_file(
             alloc,
-            "The file that has the task, where a report about it is on standard input; not beside --rounds",
+            "The file that has the task, if a report about it is on standard input; not with --rounds",
         ),
     )
 }
@@ -261,7 +261,7 @@ fn proof_command<'a>(alloc: Global) -> Result<Command<'a>, AllocError>
         flag(
             alloc,
             "progress",
-            "Tell on standard error now and then which line of the proof is reached",
+            "Print on standard error now and then which line of the proof is reached",
         ),
     )
 }
@@ -305,7 +305,7 @@ fn lift_command<'a>(alloc: Global) -> Result<Command<'a>, AllocError>
         optional(
             alloc,
             "rounds",
-            "How many rounds the map is to be for, at least as many as the report's; without it one more",
+            "How many rounds the map is to be for, at least as many as the report's; one more if not given",
         ),
     )
 }
@@ -365,7 +365,7 @@ fn obstruction_command<'a>(alloc: Global) -> Result<Command<'a>, AllocError>
         flag(
             alloc,
             "progress",
-            "Tell on standard error how many unknowns and equations there are, and which nodes are tried",
+            "Print on standard error how many unknowns and equations there are, and which nodes are tried",
         ),
     )
 }
@@ -408,7 +408,7 @@ fn preset_command<'a>(alloc: Global) -> Result<Command<'a>, AllocError>
         optional(
             alloc,
             "values",
-            "How many values each process may have as input, 1 to 64; without it each has its own number",
+            "How many values each process may have as input, 1 to 64, as far as the task's limits allow: with four processes at most 7; each has its own number if not given",
         ),
     );
     taking(

@@ -27,7 +27,7 @@ pub(crate) fn whole_command<'a>(alloc: Global) -> Result<Command<'a>, AllocError
         optional(
             alloc,
             "rounds",
-            "How many rounds the report or the proof is to be for: a report for others is refused, and a proof needs them",
+            "Accept a report only if it is about this many rounds; a proof needs the number",
         ),
     );
     let command = taking(
@@ -43,7 +43,7 @@ pub(crate) fn whole_command<'a>(alloc: Global) -> Result<Command<'a>, AllocError
         flag(
             alloc,
             "lrat",
-            "The certificate is a clausal proof with hints (LRAT), as text; not beside --proof",
+            "The certificate is a clausal proof with hints (LRAT), as text; not with --proof",
         ),
     );
     taking(
