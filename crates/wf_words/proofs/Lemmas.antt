@@ -1,3 +1,3 @@
 -- What the crates above may use of these proofs.
 pub use Rattle.wf_words.proofs.AddedOptions.{taken}
-pub use Rattle.wf_words.proofs.ParsedWords.{on_file, on_file_for, refused_answered, taken_answered}
+pub use Rattle.wf_words.proofs.ParsedWords.{on_file, refused_answered, taken_answered}
