@@ -43,7 +43,6 @@ use Rattle.wf_obstruction_engine.proofs.Lemmas.{seeking_counted}
 use Rattle.wf_service.specs.Files.{Filing, Opening, Opens, state_of}
 use Rattle.wf_service.specs.FileRuns.{WithFile}
 use Rattle.wf_service.specs.FileLaws.{Checked, IsFiled, IsFileRun}
-use Rattle.wf_service.proofs.Lemmas as files
 use Rattle.wf_service.specs.Refusals.{as_file_refusal, fault_status, refusal_status}
 use Rattle.wf_service.specs.Laws.{IsDeclined, calls_by, calls_by_status}
 use Rattle.wf_service.specs.declared.refusal.Refusal.{Refusal}
@@ -85,7 +84,7 @@ module _ {F : Type 0} (folder folder' : Filing F) (same : folder' ≡ folder) (s
   accepted : {X : Type 0} (x : X) (d : Done) → IsAnswered sink sink' d → IsCounted source source' sink sink' (Ok x) → Alone (Ok d)
   unfolding Alone
   accepted x d most h =
-      record { failed = 0; filed = files.unasked folder folder' same; answered = most; failures = omega (arith, h.reads, h.writes); taken = h.taken; unwritten = tt }
+      record { failed = 0; filed = service.unasked folder folder' same; answered = most; failures = omega (arith, h.reads, h.writes); taken = h.taken; unwritten = tt }
 
   refused : {X : Type 0} (e : RunFault) → IsCounted {X = X} source source' sink sink' (Err e) → Alone (Err (refusal.Run e))
   unfolding Alone
@@ -93,7 +92,7 @@ module _ {F : Type 0} (folder folder' : Filing F) (same : folder' ≡ folder) (s
       let calls = calls_of_fault e in
       record {
         failed = 0;
-        filed = files.unasked folder folder' same;
+        filed = service.unasked folder folder' same;
         answered = tt;
         failures = omega (arith, h.reads, h.writes, calls);
         taken = h.taken;
@@ -152,12 +151,12 @@ module _ {F : Type 0} (folder folder' : Filing F) (same : folder' ≡ folder) (s
       let reads : source'.failures ≡ source.failures = ap (λ s. s.failures) read in
       let takes : source'.taken ≡ source.taken = ap (λ s. s.taken) read in
       let failures = h.failures in
-      record { failed = 0; filed = files.unasked folder folder' same; answered = quiet sink sink' _ (omega arith); failures = omega (arith, reads, failures); taken = omega (arith, takes); unwritten = tt }
+      record { failed = 0; filed = service.unasked folder folder' same; answered = quiet sink sink' _ (omega arith); failures = omega (arith, reads, failures); taken = omega (arith, takes); unwritten = tt }
   declined_as (Err e) read h =
       let reads : source'.failures ≡ source.failures = ap (λ s. s.failures) read in
       let takes : source'.taken ≡ source.taken = ap (λ s. s.taken) read in
       let failures = h.failures in
-      record { failed = 0; filed = files.unasked folder folder' same; answered = tt; failures = omega (arith, reads, failures); taken = omega (arith, takes); unwritten = h.unwritten }
+      record { failed = 0; filed = service.unasked folder folder' same; answered = tt; failures = omega (arith, reads, failures); taken = omega (arith, takes); unwritten = h.unwritten }
 
 -- what is counted of a check of a proof
 proof_counted : (rounds : ℕ) (branch : Option ℕ) (hints : Bool) → Checked most_proof_bytes (ChecksProofBy rounds branch hints)
@@ -169,9 +168,9 @@ proof_counted rounds (Some branch) true file file' source source' sink sink' res
 -- what is counted of each job with the task in a file
 did_with : (f : FileJob) → Checked (most_beside f) (DoesWithFile f)
 did_with (filed.Verify rounds) file file' source source' sink sink' result (answer, does, is) =
-    files.without most_bytes file file' source source' sink sink' answer result is (certified rounds file file' source source' sink sink' answer does)
+    service.without most_bytes file file' source source' sink sink' answer result is (certified rounds file file' source source' sink sink' answer does)
 did_with (filed.VerifyLong rounds) file file' source source' sink sink' result (answer, does, is) =
-    files.without most_report_bytes file file' source source' sink sink' answer result is (long_counted rounds file file' source source' sink sink' answer does)
+    service.without most_report_bytes file file' source source' sink sink' answer result is (long_counted rounds file file' source source' sink sink' answer does)
 did_with (filed.VerifyBranch rounds branch) file file' source source' sink sink' result does = part_checked rounds branch file file' source source' sink sink' result does
 did_with (filed.Join rounds) file file' source source' sink sink' result does = joining_counted rounds file file' source source' sink sink' result does
 did_with (filed.Model rounds) file file' source source' sink sink' result does = modelled rounds file file' source source' sink sink' result does
@@ -204,7 +203,7 @@ with_file : {F : Type 0} (f : FileJob) (comes : Opening → Type 0) (folder fold
 with_file f comes folder folder' source source' sink sink' done (result, does, is) =
     subst (IsDone 1 (most_beside f) folder folder' source source' sink sink') (sym is)
     (of_file (most_beside f) folder folder' source source' sink sink' result
-    (files.counted (most_beside f) (DoesWithFile f) comes folder folder' source source' sink sink' result (did_with f) does))
+    (service.counted (most_beside f) (DoesWithFile f) comes folder folder' source source' sink sink' result (did_with f) does))
 
 -- what holds after each job
 Holds : {F : Type 0} → Result Job WordsFault → Result Done Refusal → Filing F → Filing F → Reading → Reading → Writing → Writing → Type 0
