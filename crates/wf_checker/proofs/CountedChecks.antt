@@ -7,8 +7,7 @@ use Rattle.wf_verify_engine.proofs.CertificateCounts.{certified}
 use Rattle.wf_verify_engine.proofs.ProofCounts.{proved}
 use Rattle.wf_verify_engine.proofs.HintCounts.{proved_by_hints}
 use Rattle.wf_model.specs.Limits.{most_bytes}
-use Rattle.wf_long.specs.Long.{most_report_bytes}
-use Rattle.wf_long.proofs.LongCounts.{long_counted}
+use Rattle.wf_report_stream.specs.Limits.{most_report_bytes}
 use Rattle.wf_words.specs.declared.fault.WordsFault.{WordsFault}
 use Rattle.wf_files.specs.Files.{Filing, Opens, state_of}
 use Rattle.wf_files.specs.Laws.{Checked, IsFiled, IsFileRun}
@@ -26,9 +25,9 @@ use Rattle.wf_checker.specs.Laws.{IsCheckServed, files_of, most_given, most_of}
 -- what is counted of each check
 checked : (check : Check) → Checked (most_of check) (Checks check)
 checked (Certificate rounds) task task' source source' sink sink' result (answer, does, is) =
-    without most_bytes task task' source source' sink sink' answer result is (certified rounds task task' source source' sink sink' answer does)
+    without most_bytes task task' source source' sink sink' answer result is (certified most_bytes rounds task task' source source' sink sink' answer (omega arith) does)
 checked (LongReport rounds) task task' source source' sink sink' result (answer, does, is) =
-    without most_report_bytes task task' source source' sink sink' answer result is (long_counted rounds task task' source source' sink sink' answer does)
+    without most_report_bytes task task' source source' sink sink' answer result is (certified most_report_bytes rounds task task' source source' sink sink' answer (omega arith) does)
 checked (Proof rounds) task task' source source' sink sink' result does = proved rounds task task' source source' sink sink' result does
 checked (HintedProof rounds) task task' source source' sink sink' result does = proved_by_hints rounds task task' source source' sink sink' result does
 

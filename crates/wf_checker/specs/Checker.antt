@@ -1,10 +1,11 @@
 -- What a run of the checker reads, writes, tells and answers.
 use Rattle.std.specs.Prelude.{◌≡◌, ℕ, Result, Ok, Err, codes, string_bytes}
+use Rattle.wf_model.specs.Limits.{most_bytes}
 use Rattle.wf_io.specs.Seen.{Reading, Writing}
 use Rattle.wf_io.specs.Ends.{CanCount, CanWrite}
 use Rattle.wf_verify_engine.specs.Certificates.{VerifiesCertificate}
 use Rattle.wf_verify_engine.specs.Proofs.{Refutes}
-use Rattle.wf_long.specs.Long.{VerifiesLong}
+use Rattle.wf_report_stream.specs.Limits.{most_report_bytes}
 use Rattle.wf_verify_engine.specs.Hints.{RefutesByHints}
 use Rattle.wf_run.specs.declared.fault.RunFault.{RunFault}
 use Rattle.wf_words.specs.Asked.{GivenWords, IsAsked}
@@ -21,8 +22,8 @@ use Rattle.wf_checker_args.specs.declared.job.CheckJob.{CheckJob}
 
 -- a certificate about a task was checked
 abbrev pub Checks : Check → DoesBoth (Unit {0})
-Checks (Certificate rounds) task task' source source' sink sink' result = Did (VerifiesCertificate rounds) task task' source source' sink sink' result
-Checks (LongReport rounds) task task' source source' sink sink' result = Did (VerifiesLong rounds) task task' source source' sink sink' result
+Checks (Certificate rounds) task task' source source' sink sink' result = Did (VerifiesCertificate most_bytes rounds) task task' source source' sink sink' result
+Checks (LongReport rounds) task task' source source' sink sink' result = Did (VerifiesCertificate most_report_bytes rounds) task task' source source' sink sink' result
 Checks (Proof rounds) task task' source source' sink sink' result = Refutes rounds task task' source source' sink sink' result
 Checks (HintedProof rounds) task task' source source' sink sink' result = RefutesByHints rounds task task' source source' sink sink' result
 

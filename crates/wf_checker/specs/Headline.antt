@@ -37,11 +37,15 @@ abbrev pub IsTrueProof : ℕ → Reading → Reading → Writing → Writing →
 IsTrueProof rounds task task' sink sink' =
     (t : Task) × GaveTask task task' t × HasNoDecisionMap t rounds × Wrote sink sink' (accepted_text (Some rounds) (none []))
 
+-- one of both
+abbrev pub IsTrueCertificate : Option ℕ → Reading → Reading → Reading → Reading → Writing → Writing → Type 0
+IsTrueCertificate rounds task task' source source' sink sink' =
+    IsTrueReport rounds task task' source source' sink sink' ⊎ IsTrueObstruction rounds task task' sink sink'
+
 -- what is true if a check accepts
 abbrev pub IsTrue : Check → Reading → Reading → Reading → Reading → Writing → Writing → Type 0
-IsTrue (Certificate rounds) task task' source source' sink sink' =
-    IsTrueReport rounds task task' source source' sink sink' ⊎ IsTrueObstruction rounds task task' sink sink'
-IsTrue (LongReport rounds) task task' source source' sink sink' = IsTrueReport rounds task task' source source' sink sink'
+IsTrue (Certificate rounds) task task' source source' sink sink' = IsTrueCertificate rounds task task' source source' sink sink'
+IsTrue (LongReport rounds) task task' source source' sink sink' = IsTrueCertificate rounds task task' source source' sink sink'
 IsTrue (Proof rounds) task task' source source' sink sink' = IsTrueProof rounds task task' sink sink'
 IsTrue (HintedProof rounds) task task' source source' sink sink' = IsTrueProof rounds task task' sink sink'
 

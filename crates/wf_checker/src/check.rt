@@ -9,9 +9,8 @@ use std::thread::Threads;
 use wf_checker_args::Check;
 use wf_files::{TaskRun, without_answer};
 use wf_io::{Sink, Source};
-use wf_long::AcceptedLongReport;
 use wf_run::{RunFault, run_over_both, run_over_pair};
-use wf_verify_engine::{AcceptedCertificate, Clausal, Hinted, NoneByProof, Unheard};
+use wf_verify_engine::{AcceptedCertificate, Clausal, Hinted, NoneByProof, ReportLength, Unheard};
 
 /// A check, and what it is done with.
 #[derive(Clone, Copy)]
@@ -36,11 +35,13 @@ impl<'a, T: Threads + Sync> TaskRun for CheckRun<'a, T> {
         let listener = None::<&Unheard>;
         match check {
             Check::Certificate(rounds) => {
-                let accepted = AcceptedCertificate { rt, rounds };
+                let length = ReportLength::Usual;
+                let accepted = AcceptedCertificate { rt, rounds, length };
                 without_answer(run_over_pair(alloc, task, source, sink, &accepted))
             }
             Check::LongReport(rounds) => {
-                let accepted = AcceptedLongReport { rt, rounds };
+                let length = ReportLength::Long;
+                let accepted = AcceptedCertificate { rt, rounds, length };
                 without_answer(run_over_pair(alloc, task, source, sink, &accepted))
             }
             Check::Proof(rounds) => {

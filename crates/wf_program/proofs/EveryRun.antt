@@ -8,8 +8,7 @@ use Rattle.wf_formula.specs.Branches.{branch_text}
 use Rattle.wf_core.specs.declared.Account.{Account}
 use Rattle.wf_io.specs.Seen.{Reading, Writing}
 use Rattle.wf_argument_words.specs.Listing.{executions_text}
-use Rattle.wf_long.specs.Long.{most_report_bytes}
-use Rattle.wf_long.proofs.LongCounts.{long_counted}
+use Rattle.wf_report_stream.specs.Limits.{most_report_bytes}
 use Rattle.wf_words.specs.declared.fault.WordsFault.{WordsFault}
 use Rattle.wf_args.specs.declared.Job.{Job}
 use Rattle.wf_args.specs.declared.Job.TheVariants as job
@@ -180,9 +179,9 @@ proof_counted rounds (Some branch) true file file' source source' sink sink' res
 -- what is counted of each job with the task in a file
 did_with : (f : FileJob) → Checked (most_with f) (DoesWithFile f)
 did_with (filed.Verify rounds) file file' source source' sink sink' result (answer, does, is) =
-    files.without most_bytes file file' source source' sink sink' answer result is (certified rounds file file' source source' sink sink' answer does)
+    files.without most_bytes file file' source source' sink sink' answer result is (certified most_bytes rounds file file' source source' sink sink' answer (omega arith) does)
 did_with (filed.VerifyLong rounds) file file' source source' sink sink' result (answer, does, is) =
-    files.without most_report_bytes file file' source source' sink sink' answer result is (long_counted rounds file file' source source' sink sink' answer does)
+    files.without most_report_bytes file file' source source' sink sink' answer result is (certified most_report_bytes rounds file file' source source' sink sink' answer (omega arith) does)
 did_with (filed.VerifyBranch rounds branch) file file' source source' sink sink' result does = part_checked rounds branch file file' source source' sink sink' result does
 did_with (filed.Join rounds) file file' source source' sink sink' result does = joining_counted rounds file file' source source' sink sink' result does
 did_with (filed.Model rounds) file file' source source' sink sink' result does = modelled rounds file file' source source' sink sink' result does

@@ -3,7 +3,7 @@ use Rattle.std.specs.Prelude.{◌≡◌, ◌+◌, ◌≤◌, ◌⊎◌, ℕ, Opt
 use Rattle.wf_model.specs.Limits.{most_bytes}
 use Rattle.wf_io.specs.Seen.{Reading, Writing}
 use Rattle.wf_verify_engine.specs.Proofs.{most_proof_bytes}
-use Rattle.wf_long.specs.Long.{most_report_bytes}
+use Rattle.wf_report_stream.specs.Limits.{most_report_bytes}
 use Rattle.wf_branches.specs.Joining.{most_parts_bytes}
 use Rattle.wf_words.specs.Asked.{GivenWords, IsAsked}
 use Rattle.wf_words.specs.declared.fault.WordsFault.{WordsFault}

@@ -1,7 +1,7 @@
 -- What a run of the program reads, writes, tells and answers.
 use Rattle.std.specs.Prelude.{◌≡◌, ◌<◌, ◌≤◌, ℕ, Bool, true, false, List, [], ◌∷◌, ◌++◌, Option, Some, None, Result, Ok, Err, codes, option_map, string_bytes}
 use Rattle.wf_core.specs.declared.Account as core
-use Rattle.wf_model.specs.Limits.{most_workers}
+use Rattle.wf_model.specs.Limits.{most_bytes, most_workers}
 use Rattle.wf_model.specs.ViewsText.{views_text}
 use Rattle.wf_formula.specs.Dimacs.{question_text}
 use Rattle.wf_io.specs.Seen.{Reading, Writing}
@@ -17,7 +17,7 @@ use Rattle.wf_verify_engine.specs.Verify.{Decides}
 use Rattle.wf_verify_engine.specs.Certificates.{VerifiesCertificate}
 use Rattle.wf_verify_engine.specs.Models.{Models}
 use Rattle.wf_verify_engine.specs.Proofs.{Refutes}
-use Rattle.wf_long.specs.Long.{VerifiesLong}
+use Rattle.wf_report_stream.specs.Limits.{most_report_bytes}
 use Rattle.wf_verify_engine.specs.Hints.{RefutesByHints}
 use Rattle.wf_run.specs.Presets.{WritesPreset}
 use Rattle.wf_argument_words.specs.Listing.{executions_text}
@@ -116,8 +116,8 @@ ChecksProof asked task task' source source' sink sink' result = ChecksProofBy as
 
 -- what a job does with the task in its file
 abbrev pub DoesWithFile : FileJob → DoesBoth (Unit {0})
-DoesWithFile (filed.Verify rounds) task task' source source' sink sink' result = Did (VerifiesCertificate rounds) task task' source source' sink sink' result
-DoesWithFile (filed.VerifyLong rounds) task task' source source' sink sink' result = Did (VerifiesLong rounds) task task' source source' sink sink' result
+DoesWithFile (filed.Verify rounds) task task' source source' sink sink' result = Did (VerifiesCertificate most_bytes rounds) task task' source source' sink sink' result
+DoesWithFile (filed.VerifyLong rounds) task task' source source' sink sink' result = Did (VerifiesCertificate most_report_bytes rounds) task task' source source' sink sink' result
 DoesWithFile (filed.VerifyBranch rounds branch) task task' source source' sink sink' result =
     VerifiesBranch rounds branch task task' source source' sink sink' result
 DoesWithFile (filed.Join rounds) task task' source source' sink sink' result = Joins rounds task task' source source' sink sink' result

@@ -15,13 +15,12 @@ use wf_args::Job;
 use wf_branches::{NoneInBranch, PartOfBranch, WholeOfParts};
 use wf_files::{Files, Opener, TaskRun, run_with_file, without_answer};
 use wf_io::{Sink, Source};
-use wf_long::AcceptedLongReport;
 use wf_report_engine::{CertificateInWords, LiftedMap, ShorterReport};
 use wf_run::{RunFault, run_over_both, run_over_pair};
 use wf_service::{Refusal, as_file_refusal};
 use wf_verify_engine::{
     AcceptedCertificate, Clausal, Hinted, MapInWords, MapOfModel, NoneByProof, ProofListener,
-    run_over_report,
+    ReportLength, run_over_report,
 };
 
 /// A check of a solver's proof that there is no map after so many rounds, or none in the branch of
@@ -206,11 +205,13 @@ impl<'a, T: Threads + Sync, L: ProofListener> TaskRun for FileRun<'a, T, L> {
         let (rt, alloc) = (self.rt, self.alloc);
         match self.job {
             FileJob::Verify(rounds) => {
-                let accepted = AcceptedCertificate { rt, rounds };
+                let length = ReportLength::Usual;
+                let accepted = AcceptedCertificate { rt, rounds, length };
                 without_answer(run_over_pair(alloc, task, source, sink, &accepted))
             }
             FileJob::VerifyLong(rounds) => {
-                let accepted = AcceptedLongReport { rt, rounds };
+                let length = ReportLength::Long;
+                let accepted = AcceptedCertificate { rt, rounds, length };
                 without_answer(run_over_pair(alloc, task, source, sink, &accepted))
             }
             FileJob::VerifyBranch { rounds, branch } => {

@@ -1,3 +1,6 @@
+pub mod AheadReports
+pub mod AheadTexts
+pub mod Peeked
 pub mod CheckCounts
 pub mod ProofBytes
 pub mod ProofsToLines

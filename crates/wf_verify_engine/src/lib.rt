@@ -1,8 +1,8 @@
 //! The engines that check what somebody else says of a task. They stand on nothing of the search.
 //!
 //! - [`run_verify`]: a task's text and a report's in, and what is accepted out.
-//! - [`AcceptedCertificate`]: what is accepted of a certificate, which is a report or an
-//!   obstruction, for [`run_over_pair`](wf_run::run_over_pair).
+//! - [`AcceptedCertificate`]: what is accepted of a certificate, which is a report of some
+//!   [`ReportLength`] or an obstruction, for [`run_over_pair`](wf_run::run_over_pair).
 //! - [`MapInWords`]: what a report's map decides at each point, for [`run_over_report`].
 //! - [`MapOfModel`]: the report of the map that a SAT solver's model gives, for
 //!   [`run_over_both`](wf_run::run_over_both).
@@ -19,10 +19,12 @@
 //! alone in `specs/Headline.antt`).
 #![tactic(auto)]
 
+mod as_read;
 mod certificate;
 mod decisions;
 mod format;
 mod laws;
+mod length;
 mod listener;
 mod model;
 mod obstruction;
@@ -41,6 +43,7 @@ pub use laws::{
     models_are_accepted, models_are_true, obstructions_are_true, proving_is_counted,
     refutations_are_true, verifying_certificates_is_counted, verifying_is_counted,
 };
+pub use length::ReportLength;
 pub use listener::{ProofListener, Unheard};
 pub use model::MapOfModel;
 pub use obstruction::{judge_obstruction, obstruction_of};
