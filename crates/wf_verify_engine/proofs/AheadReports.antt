@@ -1,6 +1,6 @@
 -- What is found of a report, from what is found of its header and its body.
 use Rattle.std.proofs.Common.{◌≡◌, ℕ, [], Option, Some, None, Result, Ok, Err, IsErr, IsErrAnd, inl, refl, sym, ap, ◌∙◌, subst}
-use Rattle.wf_model.specs.Check.{Refusal, body_fault, header_fault, report_fault, unless_fault}
+use Rattle.wf_model.specs.Check.{body_fault, header_fault, report_fault, unless_fault}
 use Rattle.wf_model.specs.Problem.{problem_of}
 use Rattle.wf_model.specs.Report as reports
 use Rattle.wf_model.specs.Task.{Task}

@@ -12,7 +12,6 @@ use Rattle.wf_io.specs.declared.source.ReadFault.{ReadFault}
 use Rattle.wf_io.specs.declared.source.ReadFault.TheVariants as read
 use Rattle.wf_report.specs.declared.fault.CertFault.{CertFault}
 use Rattle.wf_report.specs.declared.fault.CertFault.TheVariants as amiss
-use Rattle.wf_report_stream.specs.Limits.{most_report_bytes}
 use Rattle.wf_report_stream.specs.Parts.{whole_report}
 use Rattle.wf_report_stream.specs.Reads.{Parse, Reads}
 use Rattle.wf_report_stream.specs.Windows.{Ahead, CanGive, Drains, Gives, IsCutOff, failed_by, untouched}

@@ -1,5 +1,5 @@
 -- A certificate, by its first line.
-use Rattle.std.proofs.Common.{◌≡◌, ◌≤◌, ℕ, ◌++◌, Bool, true, false, cond, List, [], ◌∷◌, codes, length, take, Option, Vec, Result, Ok, Err, IsErr, IsErrAnd, inl, inr, refl, sym, ap, ◌∙◌, subst, arith, append-nil, length-append}
+use Rattle.std.proofs.Common.{◌≡◌, ◌≤◌, ℕ, ◌++◌, Bool, true, false, cond, List, [], codes, length, Option, Vec, Result, Ok, Err, IsErr, IsErrAnd, inl, inr, refl, sym, ap, ◌∙◌, subst, arith, append-nil, length-append}
 use Rattle.std.proofs.KnownBytes.{Consumes-nil}
 use Rattle.wf_model.specs.Limits.{most_bytes}
 use Rattle.wf_model.specs.Report.{Report, line}
@@ -10,12 +10,10 @@ use Rattle.wf_io.specs.declared.source.ReadFault.{ReadFault}
 use Rattle.wf_io.specs.declared.source.ReadFault.TheVariants as read
 use Rattle.wf_report_stream.specs.Limits.{most_report_bytes}
 use Rattle.wf_report_stream.specs.Reads.{MayFollow}
-use Rattle.wf_report_stream.specs.Windows as windows
 use Rattle.wf_report_stream.specs.Windows.{Ahead, CanGive, Collects, Gives, IsCutOff, IsFront, Seeks, failed_by, untouched, with_most}
 use Rattle.wf_report_stream.specs.declared.window.AtFront.{AtFront}
 use Rattle.wf_report_stream.specs.declared.window.AtFront.TheVariants as found
 use Rattle.wf_report_stream.proofs.BadLines.{not_fixed}
-use Rattle.wf_report_stream.proofs.Chains.{can_on}
 use Rattle.wf_report_stream.proofs.Fronts.{bad_ahead, line_first}
 use Rattle.wf_tree_text.specs.Text.{begins_as_obstruction, begins_with}
 use Rattle.wf_run.specs.Faults.{of_read}

@@ -1,4 +1,4 @@
-use Rattle.std.proofs.Common.{Ok, Err, arith, subst, sym, ap}
+use Rattle.std.proofs.Common.{Ok, Err, arith, subst, sym}
 use Rattle.wf_model.specs.Problem.{problem_of}
 use Rattle.wf_report_stream.specs.Judged.{IsAnyBody, IsBodyFault}
 use Rattle.wf_verify_engine.specs.AsRead.{IsReported}
