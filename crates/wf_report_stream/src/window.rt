@@ -3,7 +3,6 @@
 ghost use Rattle.std.specs.Prelude.{◌≡◌, ◌+◌, ◌++◌, ◌-◌, ◌^◌, ◌<◌, ◌≤◌, false, IfErr, IfOk, MatchOption, OnOk, length, slice_range, take};
 ghost use Rattle.wf_io.specs.Texts.{bytes_of};
 ghost use Rattle.wf_io.specs.declared.source.ReadFault.TheVariants.{OutOfMemory};
-ghost use Rattle.wf_report_stream.specs.Limits.{most_report_bytes};
 ghost use Rattle.wf_report_stream.specs.Windows.{CanGive, Collects, Drains, Fills, Finds, IsFront, IsLineAt, IsShort, ReadsBehind, Seeks, longest_line, passed, untouched, with_most, without_pending};
 
 use crate::halt::Halt;

@@ -1,6 +1,5 @@
-use Rattle.std.proofs.Common.{◌≡◌, ◌∙◌, ◌++◌, Ok, Err, ap, arith, length, sym, subst}
+use Rattle.std.proofs.Common.{◌∙◌, ◌++◌, Err, ap, arith, length, sym, subst}
 use Rattle.std.proofs.lemmas.Result.{err_from_is_err_and}
-use Rattle.wf_io.specs.declared.source.ReadFault.TheVariants.{OutOfMemory}
 use Rattle.wf_report_stream.specs.Windows.{Collects}
 use Rattle.wf_report_stream.proofs.Fills.{begun, collected, collected_cut, collected_full, collected_on, nearer_rest, not_begun}
 use Rattle.wf_report_stream.proofs.window.Window.read_rest.Goals as goal
@@ -26,7 +25,7 @@ returns-in_err-fill g c =
     rw (p.1, p.2) (collected_cut c.args.source.now c.fills.source c.fill.new.source c.args.self.now c.fills.self c.fill.new.self c.fills.text.items c.fills.invariant c.in_err-fill.field-0.0 c.in_err-fill.ensures.filled)
 
 pub fills-preserved : goal.fills-preserved
-fills-preserved g c = collected_on c.args.source.now c.fills.source c.fill.new.source c.args.self.now c.fills.self c.fill.new.self c.fills.text.items c.fills.invariant c.move_onto-in-fills.new.self c.move_onto-in-fills.new.text.items c.in_ok-fill.ensures.filled c.in_ok-fill.ensures.can c.move_onto-in-fills.ensures.passed c.in_ok-move_onto-in-fills.ensures.moved
+fills-preserved g c = collected_on c.args.source.now c.fills.source c.fill.new.source c.args.self.now c.fills.self c.fill.new.self c.fills.text.items c.fills.invariant c.move_onto-in-fills.new.self c.move_onto-in-fills.new.text.items c.in_ok-fill.ensures.filled c.in_ok-fill.ensures.can c.move_onto-in-fills.ensures.passed c.in_ok-move_onto-2.ensures.moved
 
 pub fills-smaller : goal.fills-smaller
 fills-smaller g c = nearer_rest c.args.source.now c.fills.source c.fill.new.source c.args.self.now c.fills.self c.fill.new.self c.fills.text.items c.fills.invariant (sym c.is_ended.ensures ∙ c.fills-test.true) c.move_onto-in-fills.new.self c.in_ok-fill.ensures.filled c.in_ok-fill.ensures.can c.move_onto-in-fills.ensures.passed
