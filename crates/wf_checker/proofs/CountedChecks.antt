@@ -10,16 +10,16 @@ use Rattle.wf_model.specs.Limits.{most_bytes}
 use Rattle.wf_long.specs.Long.{most_report_bytes}
 use Rattle.wf_long.proofs.LongCounts.{long_counted}
 use Rattle.wf_words.specs.declared.fault.WordsFault.{WordsFault}
-use Rattle.wf_files.specs.Files.{Filing, Opens, state_of}
-use Rattle.wf_files.specs.Laws.{Checked, IsFiled, IsFileRun}
-use Rattle.wf_files.proofs.FileCounts.{counted, unasked, without}
+use Rattle.wf_service.specs.Files.{Filing, Opens, state_of}
+use Rattle.wf_service.specs.FileLaws.{Checked, IsFiled, IsFileRun}
+use Rattle.wf_service.proofs.FileCounts.{counted, unasked, without}
 use Rattle.wf_service.specs.Refusals.{as_file_refusal, fault_status, refusal_status}
 use Rattle.wf_service.specs.declared.refusal.Refusal.{Refusal}
 use Rattle.wf_service.specs.Laws.{IsDeclined, calls_by, calls_by_status}
 use Rattle.wf_service.proofs.DeclinedWords.{calls_of_fault, declined, has_status, two_or_three}
-use Rattle.wf_checker_args.specs.declared.job.Check.{Check}
-use Rattle.wf_checker_args.specs.declared.job.Check.TheVariants.{Certificate, LongReport, Proof, HintedProof}
-use Rattle.wf_checker_args.specs.declared.job.CheckJob.{CheckJob}
+use Rattle.wf_checker.specs.declared.job.Check.{Check}
+use Rattle.wf_checker.specs.declared.job.Check.TheVariants.{Certificate, LongReport, Proof, HintedProof}
+use Rattle.wf_checker.specs.declared.job.CheckJob.{CheckJob}
 use Rattle.wf_checker.specs.Checker.{Checks, DoesCheck, EndsCheck}
 use Rattle.wf_checker.specs.Laws.{IsCheckServed, files_of, most_given, most_of}
 

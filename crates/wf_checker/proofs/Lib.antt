@@ -1,2 +1,3 @@
+pub mod CheckWords
 pub mod CountedChecks
 pub mod TrueChecks

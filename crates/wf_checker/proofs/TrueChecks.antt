@@ -15,14 +15,14 @@ use Rattle.wf_verify_engine.proofs.HintCounts.{hinted_refutations_true}
 use Rattle.wf_long.specs.Long.{VerifiesLong}
 use Rattle.wf_long.proofs.LongHeadline.{long_acceptances_true}
 use Rattle.wf_words.specs.declared.fault.WordsFault.{WordsFault}
-use Rattle.wf_files.specs.Files.{Filing, Opens, state_of, unread}
-use Rattle.wf_files.specs.FileRuns.{WithFile, without_answer}
+use Rattle.wf_service.specs.Files.{Filing, Opens, state_of, unread}
+use Rattle.wf_service.specs.FileRuns.{WithFile, without_answer}
 use Rattle.wf_service.specs.Refusals.{as_file_refusal}
 use Rattle.wf_service.specs.declared.refusal.Refusal.{Refusal}
 use Rattle.wf_service.proofs.DeclinedWords.{has_status}
-use Rattle.wf_checker_args.specs.declared.job.Check.{Check}
-use Rattle.wf_checker_args.specs.declared.job.Check.TheVariants.{Certificate, LongReport, Proof, HintedProof}
-use Rattle.wf_checker_args.specs.declared.job.CheckJob.{CheckJob}
+use Rattle.wf_checker.specs.declared.job.Check.{Check}
+use Rattle.wf_checker.specs.declared.job.Check.TheVariants.{Certificate, LongReport, Proof, HintedProof}
+use Rattle.wf_checker.specs.declared.job.CheckJob.{CheckJob}
 use Rattle.wf_checker.specs.Checker.{Checks, DoesCheck, EndsCheck}
 use Rattle.wf_checker.specs.Headline.{IsTrue, IsTrueOf}
 

@@ -9,15 +9,15 @@ use Rattle.wf_verify_engine.specs.Hints.{RefutesByHints}
 use Rattle.wf_run.specs.declared.fault.RunFault.{RunFault}
 use Rattle.wf_words.specs.Asked.{GivenWords, IsAsked}
 use Rattle.wf_words.specs.declared.fault.WordsFault.{WordsFault}
-use Rattle.wf_files.specs.Files.{CanAsk, Filing, Opening, Opens, state_of}
-use Rattle.wf_files.specs.FileRuns.{Did, DoesBoth, WithFile}
+use Rattle.wf_service.specs.Files.{CanAsk, Filing, Opening, Opens, state_of}
+use Rattle.wf_service.specs.FileRuns.{Did, DoesBoth, WithFile}
 use Rattle.wf_service.specs.Refusals.{Refuses, as_file_refusal}
 use Rattle.wf_service.specs.Showing.{DeclinesAs}
 use Rattle.wf_service.specs.declared.refusal.Refusal.{Refusal}
-use Rattle.wf_checker_args.specs.Asked.{job_asked}
-use Rattle.wf_checker_args.specs.declared.job.Check.{Check}
-use Rattle.wf_checker_args.specs.declared.job.Check.TheVariants.{Certificate, LongReport, Proof, HintedProof}
-use Rattle.wf_checker_args.specs.declared.job.CheckJob.{CheckJob}
+use Rattle.wf_checker.specs.Asked.{job_asked}
+use Rattle.wf_checker.specs.declared.job.Check.{Check}
+use Rattle.wf_checker.specs.declared.job.Check.TheVariants.{Certificate, LongReport, Proof, HintedProof}
+use Rattle.wf_checker.specs.declared.job.CheckJob.{CheckJob}
 
 -- a certificate about a task was checked
 abbrev pub Checks : Check → DoesBoth (Unit {0})

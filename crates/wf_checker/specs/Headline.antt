@@ -11,12 +11,12 @@ use Rattle.wf_verify_engine.specs.Verify.{accepted_text}
 use Rattle.wf_verify_engine.specs.Certificates.{never_text}
 use Rattle.wf_words.specs.Asked.{GivenWords, IsAsked}
 use Rattle.wf_words.specs.declared.fault.WordsFault.{WordsFault}
-use Rattle.wf_files.specs.Files.{Filing, Opens, after_asking, unread}
-use Rattle.wf_checker_args.specs.Asked.{job_asked}
+use Rattle.wf_service.specs.Files.{Filing, Opens, after_asking, unread}
+use Rattle.wf_checker.specs.Asked.{job_asked}
 use Rattle.wf_checker.specs.Checker.{ServesCheck}
-use Rattle.wf_checker_args.specs.declared.job.Check.{Check}
-use Rattle.wf_checker_args.specs.declared.job.Check.TheVariants.{Certificate, LongReport, Proof, HintedProof}
-use Rattle.wf_checker_args.specs.declared.job.CheckJob.{CheckJob}
+use Rattle.wf_checker.specs.declared.job.Check.{Check}
+use Rattle.wf_checker.specs.declared.job.Check.TheVariants.{Certificate, LongReport, Proof, HintedProof}
+use Rattle.wf_checker.specs.declared.job.CheckJob.{CheckJob}
 
 -- The sources gave a task and the text of a true report about it, which is about the rounds that
 -- were asked for, and the sink took the line that says what is accepted.

@@ -6,14 +6,14 @@ use Rattle.wf_verify_engine.specs.Proofs.{most_proof_bytes}
 use Rattle.wf_long.specs.Long.{most_report_bytes}
 use Rattle.wf_words.specs.Asked.{GivenWords, IsAsked}
 use Rattle.wf_words.specs.declared.fault.WordsFault.{WordsFault}
-use Rattle.wf_files.specs.Files.{Filing, Opens}
-use Rattle.wf_files.specs.Laws.{IsFiled}
+use Rattle.wf_service.specs.Files.{Filing, Opens}
+use Rattle.wf_service.specs.FileLaws.{IsFiled}
 use Rattle.wf_service.specs.Laws.{calls_by_status}
-use Rattle.wf_checker_args.specs.Asked.{job_asked}
+use Rattle.wf_checker.specs.Asked.{job_asked}
 use Rattle.wf_checker.specs.Checker.{ServesCheck}
-use Rattle.wf_checker_args.specs.declared.job.Check.{Check}
-use Rattle.wf_checker_args.specs.declared.job.Check.TheVariants.{Certificate, LongReport}
-use Rattle.wf_checker_args.specs.declared.job.CheckJob.{CheckJob}
+use Rattle.wf_checker.specs.declared.job.Check.{Check}
+use Rattle.wf_checker.specs.declared.job.Check.TheVariants.{Certificate, LongReport}
+use Rattle.wf_checker.specs.declared.job.CheckJob.{CheckJob}
 
 -- how many files a job opens
 abbrev pub files_of : Result CheckJob WordsFault → ℕ

@@ -3,14 +3,14 @@
 ghost use Rattle.std.specs.Thread.{IsSync};
 ghost use Rattle.wf_checker.specs.Checker.{Checks};
 
+use crate::job::Check;
 use std::alloc::Global;
 use std::io::{Read, Write};
 use std::thread::Threads;
-use wf_checker_args::Check;
-use wf_files::{TaskRun, without_answer};
 use wf_io::{Sink, Source};
 use wf_long::AcceptedLongReport;
 use wf_run::{RunFault, run_over_both, run_over_pair};
+use wf_service::{TaskRun, without_answer};
 use wf_verify_engine::{AcceptedCertificate, Clausal, Hinted, NoneByProof, Unheard};
 
 /// A check, and what it is done with.

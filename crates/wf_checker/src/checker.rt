@@ -3,19 +3,20 @@
 ghost use Rattle.std.specs.Prelude.{codes};
 ghost use Rattle.wf_io.specs.Ends.{CanCount, CanWrite};
 ghost use Rattle.wf_words.specs.Asked.{IsAsked};
-ghost use Rattle.wf_checker_args.specs.Asked.{job_asked};
-ghost use Rattle.wf_files.specs.Files.{CanAsk};
+ghost use Rattle.wf_checker.specs.Asked.{job_asked};
+ghost use Rattle.wf_service.specs.Files.{CanAsk};
 ghost use Rattle.wf_checker.specs.Checker.{CanCheck, ChecksFile, DoesJob, EndsCheck, ServesCheck};
 ghost use Rattle.wf_service.specs.Showing.{DeclinesAs};
 
 use crate::check::CheckRun;
+use crate::job::{CheckJob, read_words};
 use std::alloc::Global;
 use std::io::{Read, Write};
 use std::thread::Threads;
-use wf_checker_args::{CheckJob, read_words};
-use wf_files::{Files, Opener, run_with_file};
 use wf_io::{Sink, Source};
-use wf_service::{Program, Refusal, as_file_refusal, decline, refuse};
+use wf_service::{
+    Files, Opener, Program, Refusal, as_file_refusal, decline, refuse, run_with_file,
+};
 use wf_words::WordsFault;
 
 /// What a check is done with: threads and memory.

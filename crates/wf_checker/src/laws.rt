@@ -3,7 +3,7 @@
 ghost use Rattle.wf_checker.specs.Headline.{ChecksAreTrue};
 ghost use Rattle.wf_checker.specs.Laws.{CheckingIsCounted};
 
-use wf_files::{Files, Opener};
+use wf_service::{Files, Opener};
 
 /// What status 0 means: the task's file was opened, and what the certificate says of its task is
 /// true. A report's map is a decision map, the least one if the report says so; and if the report

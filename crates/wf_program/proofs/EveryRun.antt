@@ -42,10 +42,10 @@ use Rattle.wf_obstruction_engine.specs.Laws.{IsSeekingCounted}
 use Rattle.wf_obstruction_engine.specs.declared.finding.Finding.{Finding}
 use Rattle.wf_obstruction_engine.specs.declared.finding.Finding.TheVariants as finding
 use Rattle.wf_obstruction_engine.proofs.SearchRuns.{seeking_counted}
-use Rattle.wf_files.specs.Files.{Filing, Opening, Opens, state_of}
-use Rattle.wf_files.specs.FileRuns.{WithFile}
-use Rattle.wf_files.specs.Laws.{Checked, IsFiled, IsFileRun}
-use Rattle.wf_files.proofs.FileCounts as files
+use Rattle.wf_service.specs.Files.{Filing, Opening, Opens, state_of}
+use Rattle.wf_service.specs.FileRuns.{WithFile}
+use Rattle.wf_service.specs.FileLaws.{Checked, IsFiled, IsFileRun}
+use Rattle.wf_service.proofs.FileCounts as files
 use Rattle.wf_service.specs.Refusals.{as_file_refusal, fault_status, refusal_status}
 use Rattle.wf_service.specs.Laws.{IsDeclined, calls_by, calls_by_status}
 use Rattle.wf_service.specs.declared.refusal.Refusal.{Refusal}

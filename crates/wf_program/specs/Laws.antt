@@ -10,8 +10,8 @@ use Rattle.wf_words.specs.declared.fault.WordsFault.{WordsFault}
 use Rattle.wf_args.specs.Asked.{job_asked}
 use Rattle.wf_args.specs.declared.Job.{Job}
 use Rattle.wf_args.specs.declared.Job.TheVariants.{Verify, VerifyLong, VerifyBranch, Decisions, Join, Model, Proof, Trim, Explain, Lift}
-use Rattle.wf_files.specs.Files.{Filing, Opens}
-use Rattle.wf_files.specs.Laws.{IsFiled}
+use Rattle.wf_service.specs.Files.{Filing, Opens}
+use Rattle.wf_service.specs.FileLaws.{IsFiled}
 use Rattle.wf_service.specs.Laws.{calls_by_status}
 use Rattle.wf_program.specs.declared.done.Note.{Note}
 use Rattle.wf_program.specs.Program.{Serves, TellsNote}

@@ -40,8 +40,8 @@ use Rattle.wf_words.specs.declared.fault.WordsFault.{WordsFault}
 use Rattle.wf_args.specs.Asked.{job_asked}
 use Rattle.wf_args.specs.declared.Job.{Job}
 use Rattle.wf_args.specs.declared.Job.TheVariants.{Solve, SolveBranch, Verify, VerifyLong, VerifyBranch, Views, Points, Branches, Join, Cnf, Model, Proof, Decisions, Trim, Explain, Lift, Executions, Obstruction, Preset}
-use Rattle.wf_files.specs.Files.{Opening, Opens, Filing, CanAsk, state_of}
-use Rattle.wf_files.specs.FileRuns.{Did, DoesBoth, WithFile}
+use Rattle.wf_service.specs.Files.{Opening, Opens, Filing, CanAsk, state_of}
+use Rattle.wf_service.specs.FileRuns.{Did, DoesBoth, WithFile}
 use Rattle.wf_service.specs.Refusals.{Refuses, as_file_refusal, refusal_line}
 use Rattle.wf_service.specs.Showing.{DeclinesAs}
 use Rattle.wf_service.specs.declared.refusal.Refusal.{Refusal}

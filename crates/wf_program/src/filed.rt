@@ -3,7 +3,7 @@
 ghost use Rattle.std.specs.Prelude.{◌≡◌, option_map};
 ghost use Rattle.std.specs.Thread.{IsSync};
 ghost use Rattle.wf_io.specs.Ends.{CanCount};
-ghost use Rattle.wf_files.specs.Files.{CanAsk};
+ghost use Rattle.wf_service.specs.Files.{CanAsk};
 ghost use Rattle.wf_run.specs.Sources.{CanReadBoth};
 ghost use Rattle.wf_program.specs.Program.{ChecksProof, DoesFile, DoesWithFile, filed_of};
 
@@ -13,12 +13,11 @@ use std::io::{Read, Write};
 use std::thread::Threads;
 use wf_args::Job;
 use wf_branches::{NoneInBranch, PartOfBranch, WholeOfParts};
-use wf_files::{Files, Opener, TaskRun, run_with_file, without_answer};
 use wf_io::{Sink, Source};
 use wf_long::AcceptedLongReport;
 use wf_report_engine::{CertificateInWords, LiftedMap, ShorterReport};
 use wf_run::{RunFault, run_over_both, run_over_pair};
-use wf_service::{Refusal, as_file_refusal};
+use wf_service::{Files, Opener, Refusal, TaskRun, as_file_refusal, run_with_file, without_answer};
 use wf_verify_engine::{
     AcceptedCertificate, Clausal, Hinted, MapInWords, MapOfModel, NoneByProof, ProofListener,
     run_over_report,

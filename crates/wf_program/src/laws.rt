@@ -2,7 +2,7 @@
 
 ghost use Rattle.wf_program.specs.Laws.{ServingIsCounted};
 
-use wf_files::{Files, Opener};
+use wf_service::{Files, Opener};
 
 /// The status is at most 4, and 4 exactly where one call of the source, the sink,
 /// the folder or the file that it opened failed. A file is opened where the words

@@ -5,7 +5,7 @@ ghost use Rattle.wf_io.specs.Ends.{CanCount, CanWrite};
 ghost use Rattle.wf_words.specs.Asked.{IsAsked};
 ghost use Rattle.wf_args.specs.Asked.{job_asked};
 ghost use Rattle.wf_args.specs.Job.{CanBeDone};
-ghost use Rattle.wf_files.specs.Files.{CanAsk};
+ghost use Rattle.wf_service.specs.Files.{CanAsk};
 ghost use Rattle.wf_program.specs.Program.{CanServe, DeclinesWords, Does, Ends, Serves};
 
 use crate::done::{Done, after_doing};
@@ -15,11 +15,10 @@ use std::alloc::Global;
 use std::io::{Read, Write};
 use std::thread::Threads;
 use wf_args::{Job, read_words, usage_of};
-use wf_files::{Files, Opener};
 use wf_finder::Listener;
 use wf_io::{Sink, Source};
 use wf_pool::Gate;
-use wf_service::{Program, Refusal, decline, refuse, tell};
+use wf_service::{Files, Opener, Program, Refusal, decline, refuse, tell};
 use wf_verify_engine::ProofListener;
 use wf_words::WordsFault;
 

@@ -8,7 +8,7 @@ use Rattle.wf_run.specs.declared.fault.RunFault.{RunFault}
 use Rattle.wf_run.specs.declared.fault.RunFault.TheVariants as run
 use Rattle.wf_run.specs.Run.{failed_reads, failed_writes, by_result}
 use Rattle.wf_run.proofs.Counts.{Told, handed}
-use Rattle.wf_files.specs.declared.files.FileState.{FileState}
+use Rattle.wf_service.specs.declared.files.FileState.{FileState}
 use Rattle.wf_service.specs.declared.refusal.Program.{Program}
 use Rattle.wf_service.specs.declared.refusal.Refusal.{Refusal}
 use Rattle.wf_service.specs.declared.refusal.Refusal.TheVariants as refusal

@@ -1,1 +1,2 @@
+pub mod FileCounts
 pub mod DeclinedWords

@@ -1,3 +1,6 @@
+pub mod Files
+pub mod FileRuns
+pub mod FileLaws
 pub mod VersionText
 pub mod Notes
 pub mod Refusals

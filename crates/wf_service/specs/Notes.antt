@@ -5,8 +5,8 @@ use Rattle.wf_complex.specs.declared.fault.BuildFault.TheVariants as build
 use Rattle.wf_draft.specs.declared.fault.Key.TheVariants as key
 use Rattle.wf_draft.specs.declared.fault.TaskFault.{TaskFault}
 use Rattle.wf_draft.specs.declared.fault.TaskFault.TheVariants as task
-use Rattle.wf_files.specs.declared.files.FileState.{FileState}
-use Rattle.wf_files.specs.declared.files.FileState.TheVariants.{Unopened, Unread, Sound}
+use Rattle.wf_service.specs.declared.files.FileState.{FileState}
+use Rattle.wf_service.specs.declared.files.FileState.TheVariants.{Unopened, Unread, Sound}
 use Rattle.wf_lrat.specs.declared.proof.HintFault.{HintFault}
 use Rattle.wf_lrat.specs.declared.proof.HintFault.TheVariants as hints
 use Rattle.wf_report.specs.declared.fault.CertFault.{CertFault}

@@ -5,7 +5,7 @@ use Rattle.wf_io.specs.Texts.{Tells}
 use Rattle.wf_run.specs.declared.fault.RunFault.{RunFault}
 use Rattle.wf_run.specs.declared.fault.RunFault.TheVariants as run
 use Rattle.wf_run.specs.Faults.{fault_text}
-use Rattle.wf_files.specs.declared.files.FileState.{FileState}
+use Rattle.wf_service.specs.declared.files.FileState.{FileState}
 use Rattle.wf_words.specs.Mistakes.{mistake_line}
 use Rattle.wf_service.specs.Notes.{file_note, note_line, note_of}
 use Rattle.wf_service.specs.declared.refusal.Refusal.{Refusal}

@@ -3,10 +3,10 @@
 ghost use Rattle.std.specs.Prelude.{◌≡◌, Some, option_map};
 ghost use Rattle.wf_service.specs.Notes.{build_note, clausal_note, file_note, hinted_note, note_line, note_of, report_note, task_note};
 
+use crate::files::FileState;
 use std::fmt;
 use wf_complex::BuildFault;
 use wf_draft::{Key, TaskFault};
-use wf_files::FileState;
 use wf_lrat::HintFault;
 use wf_report::CertFault;
 use wf_run::RunFault;

@@ -3,10 +3,10 @@
 ghost use Rattle.std.specs.Prelude.{◌≡◌};
 ghost use Rattle.wf_service.specs.Refusals.{as_file_refusal, as_refusal, fault_status, refusal_status, refusal_text};
 
+use crate::files::FileState;
 use crate::notes::{NoteLine, file_note, note_of};
 use clap::error::ErrorKind;
 use std::fmt;
-use wf_files::FileState;
 use wf_run::RunFault;
 use wf_words::Mistake;
 

@@ -8,11 +8,11 @@ use std::io;
 use std::process::ExitCode;
 use std::sync::atomic::AtomicU64;
 use std::sync::atomic::Ordering::SeqCst;
-use wf_files::{Disk, Opener, hold_closed_streams};
 use wf_finder::Listener;
 use wf_io::{Sink, Source};
 use wf_pool::{Gate, Moment};
 use wf_program::run_program;
+use wf_service::{Disk, Opener, hold_closed_streams};
 use wf_verify_engine::ProofListener;
 use wf_words::arguments;
 

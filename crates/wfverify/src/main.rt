@@ -7,8 +7,8 @@
 use std::io;
 use std::process::ExitCode;
 use wf_checker::run_checker;
-use wf_files::{Disk, Opener, hold_closed_streams};
 use wf_io::{Sink, Source};
+use wf_service::{Disk, Opener, hold_closed_streams};
 use wf_words::arguments;
 
 fn main(rt: HostRuntime) -> ExitCode {

@@ -2,7 +2,7 @@ use Rattle.std.proofs.Common.{◌≡◌, ◌∙◌, Ok, ap, map, subst, sym}
 use Rattle.std.specs.Prelude.{string_bytes}
 use Rattle.std.specs.Result.{result_from_control_flow}
 use Rattle.wf_words.specs.Asked.{Answers, IsAsked}
-use Rattle.wf_checker_args.specs.Asked.{job_asked}
+use Rattle.wf_checker.specs.Asked.{job_asked}
 use Rattle.wf_checker.proofs.checker.job_of.Goals as goal
 
 pub returns : goal.returns

@@ -1,8 +1,8 @@
 use Rattle.std.proofs.Common.{map}
 use Rattle.std.specs.Prelude.{string_bytes}
 use Rattle.clap.specs.Words.{app_of}
-use Rattle.wf_checker_args.proofs.CheckWords.{answered, refused}
-use Rattle.wf_checker_args.proofs.job.read_words.Goals as goal
+use Rattle.wf_checker.proofs.CheckWords.{answered, refused}
+use Rattle.wf_checker.proofs.job.read_words.Goals as goal
 
 pub returns-in-Ok : goal.returns-in-Ok
 returns-in-Ok c =

@@ -4,8 +4,8 @@ ghost use Rattle.std.specs.Prelude.{◌≡◌, Result};
 ghost use Rattle.wf_io.specs.Ends.{CanCount};
 ghost use Rattle.wf_io.specs.Seen.{Reading, Writing};
 ghost use Rattle.wf_run.specs.Sources.{CanReadBoth};
-ghost use Rattle.wf_files.specs.Files.{CanAsk};
-ghost use Rattle.wf_files.specs.FileRuns.{WithFile, without_answer};
+ghost use Rattle.wf_service.specs.Files.{CanAsk};
+ghost use Rattle.wf_service.specs.FileRuns.{WithFile, without_answer};
 
 use crate::files::{Files, Opener};
 use std::io::{Read, Write};

@@ -10,10 +10,10 @@ use Rattle.wf_words.specs.Given.{task_of}
 use Rattle.wf_words.specs.declared.mistake.Piece.TheVariants as piece
 use Rattle.wf_words.specs.declared.fault.WordsFault.{WordsFault}
 use Rattle.wf_words.proofs.ParsedWords as words
-use Rattle.wf_checker_args.specs.Asked.{check_asked, check_in, check_on, job_asked}
-use Rattle.wf_checker_args.specs.CommandLine.{command_line}
-use Rattle.wf_checker_args.specs.declared.job.Check.{Check}
-use Rattle.wf_checker_args.specs.declared.job.CheckJob.{CheckJob}
+use Rattle.wf_checker.specs.Asked.{check_asked, check_in, check_on, job_asked}
+use Rattle.wf_checker.specs.CommandLine.{command_line}
+use Rattle.wf_checker.specs.declared.job.Check.{Check}
+use Rattle.wf_checker.specs.declared.job.CheckJob.{CheckJob}
 
 free : is_simple_and_free command_line ≡ true
 unfolding clap_on_literals

@@ -1,7 +1,7 @@
 //! The files that words name.
 
 ghost use Rattle.std.specs.Prelude.{◌≡◌, ℕ, List, None, IfErr, IfOk, option_copied};
-ghost use Rattle.wf_files.specs.Files.{AsksFor, CanAsk, Filing, Opening, keeping, opened, refused, state_of};
+ghost use Rattle.wf_service.specs.Files.{AsksFor, CanAsk, Filing, Opening, keeping, opened, refused, state_of};
 
 use std::io;
 use std::io::Read;

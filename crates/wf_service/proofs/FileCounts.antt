@@ -4,9 +4,9 @@ use Rattle.wf_io.specs.Seen.{Reading, Writing}
 use Rattle.wf_run.specs.declared.fault.RunFault.{RunFault}
 use Rattle.wf_run.specs.declared.fault.RunFault.TheVariants.{Read}
 use Rattle.wf_run.specs.Laws.{IsChecked}
-use Rattle.wf_files.specs.Files.{Filing, Opening, after_asking, unread}
-use Rattle.wf_files.specs.FileRuns.{DoesBoth, WithFile, without_answer}
-use Rattle.wf_files.specs.Laws.{Checked, IsFiled, IsFileRun}
+use Rattle.wf_service.specs.Files.{Filing, Opening, after_asking, unread}
+use Rattle.wf_service.specs.FileRuns.{DoesBoth, WithFile, without_answer}
+use Rattle.wf_service.specs.FileLaws.{Checked, IsFiled, IsFileRun}
 
 -- what is counted of a run is counted of it without its answer
 pub without : {X : Type 0} (most : ℕ) (task task' source source' : Reading) (sink sink' : Writing) (answer : Result X RunFault) (result : Result (Unit {0}) RunFault)

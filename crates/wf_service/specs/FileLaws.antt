@@ -6,8 +6,8 @@ use Rattle.wf_run.specs.declared.fault.RunFault.{RunFault}
 use Rattle.wf_run.specs.declared.fault.RunFault.TheVariants.{Write}
 use Rattle.wf_run.specs.Run.{failed_reads, failed_writes}
 use Rattle.wf_run.specs.Laws.{IsChecked}
-use Rattle.wf_files.specs.Files.{Filing, Opens}
-use Rattle.wf_files.specs.FileRuns.{DoesBoth, WithFile}
+use Rattle.wf_service.specs.Files.{Filing, Opens}
+use Rattle.wf_service.specs.FileRuns.{DoesBoth, WithFile}
 
 -- how many reads of the file that is kept failed, and how many bytes it gave
 abbrev pub kept_failures : Option Reading → ℕ

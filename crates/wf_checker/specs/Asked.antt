@@ -8,10 +8,10 @@ use Rattle.wf_words.specs.declared.mistake.Piece.{Piece}
 use Rattle.wf_words.specs.declared.mistake.Piece.TheVariants as piece
 use Rattle.wf_words.specs.declared.mistake.Mistake.{Mistake}
 use Rattle.wf_words.specs.declared.mistake.Mistake.TheVariants as mistake
-use Rattle.wf_checker_args.specs.CommandLine.{command_line}
-use Rattle.wf_checker_args.specs.declared.job.Check.{Check}
-use Rattle.wf_checker_args.specs.declared.job.Check.TheVariants.{Certificate, LongReport, Proof, HintedProof}
-use Rattle.wf_checker_args.specs.declared.job.CheckJob.{CheckJob}
+use Rattle.wf_checker.specs.CommandLine.{command_line}
+use Rattle.wf_checker.specs.declared.job.Check.{Check}
+use Rattle.wf_checker.specs.declared.job.Check.TheVariants.{Certificate, LongReport, Proof, HintedProof}
+use Rattle.wf_checker.specs.declared.job.CheckJob.{CheckJob}
 
 -- a clausal proof of one kind, for the rounds that it needs
 abbrev pub proof_for : Piece → (ℕ → Check) → Option ℕ → Result Check Mistake

@@ -3,7 +3,7 @@ use Rattle.std.specs.Prelude.{◌≡◌, ◌⊎◌, ℕ, List, Option, Some, Non
 use Rattle.wf_io.specs.Seen.{Reading, Writing}
 use Rattle.wf_run.specs.declared.fault.RunFault.{RunFault}
 use Rattle.wf_run.specs.declared.fault.RunFault.TheVariants.{Read}
-use Rattle.wf_files.specs.Files.{Filing, Opening, after_asking, opened, refused, unread}
+use Rattle.wf_service.specs.Files.{Filing, Opening, after_asking, opened, refused, unread}
 
 -- what is done with the task of one source and what another gives, and the text that is written
 abbrev pub DoesBoth : Type 0 → Type 1

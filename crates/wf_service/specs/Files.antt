@@ -1,8 +1,8 @@
 -- What may come of opening a file, and what clauses see of what opens files.
 use Rattle.std.specs.Prelude.{◌≡◌, ◌+◌, ◌-◌, ◌^◌, ◌<◌, ◌==◌, ℕ, List, Option, Some, None, if◌then◌else◌}
 use Rattle.wf_io.specs.Seen.{Reading}
-use Rattle.wf_files.specs.declared.files.FileState.{FileState}
-use Rattle.wf_files.specs.declared.files.FileState.TheVariants.{Unopened, Unread, Sound}
+use Rattle.wf_service.specs.declared.files.FileState.{FileState}
+use Rattle.wf_service.specs.declared.files.FileState.TheVariants.{Unopened, Unread, Sound}
 
 -- it can't be opened, or it is, and then it has these bytes, where they are known
 pub data Opening : Type 0 where

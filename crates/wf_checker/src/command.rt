@@ -2,7 +2,7 @@
 
 ghost use Rattle.std.specs.Prelude.{◌≡◌, IfOk};
 ghost use Rattle.clap.specs.Words.{app_of};
-ghost use Rattle.wf_checker_args.specs.CommandLine.{command_line};
+ghost use Rattle.wf_checker.specs.CommandLine.{command_line};
 
 use clap::Command;
 use std::alloc::{AllocError, Global};

@@ -1,5 +1,5 @@
-use Rattle.wf_files.proofs.FileCounts.{counted}
-use Rattle.wf_files.proofs.laws.file_runs_are_counted.Goals as goal
+use Rattle.wf_service.proofs.FileCounts.{counted}
+use Rattle.wf_service.proofs.laws.file_runs_are_counted.Goals as goal
 
 pub returns : goal.returns
 returns g c most path folder' source source' sink sink' result checks did =

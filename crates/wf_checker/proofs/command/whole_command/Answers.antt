@@ -3,8 +3,8 @@ use Rattle.std.proofs.lemmas.Result.{IfOk-weaker}
 use Rattle.clap.specs.Simple.{app_of, app_of_fields, new_app, new_shape, on_top}
 use Rattle.wf_words.specs.Building.{IsLeaf}
 use Rattle.wf_words.proofs.AddedOptions.{taken}
-use Rattle.wf_checker_args.specs.CommandLine.{command_line}
-use Rattle.wf_checker_args.proofs.command.whole_command.Goals as goal
+use Rattle.wf_checker.specs.CommandLine.{command_line}
+use Rattle.wf_checker.proofs.command.whole_command.Goals as goal
 
 pub returns : goal.returns
 returns c =

@@ -3,7 +3,7 @@
 ghost use Rattle.std.specs.Prelude.{◌≡◌, map, string_bytes};
 ghost use Rattle.clap.specs.Words.{found_of, rows_of};
 ghost use Rattle.wf_words.specs.Asked.{Answers};
-ghost use Rattle.wf_checker_args.specs.Asked.{check_asked, job_asked, check_in};
+ghost use Rattle.wf_checker.specs.Asked.{check_asked, job_asked, check_in};
 
 use crate::command::whole_command;
 use clap::ArgMatches;

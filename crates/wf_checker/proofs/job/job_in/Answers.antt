@@ -1,6 +1,6 @@
 use Rattle.clap.specs.Words.{found_of, rows_of}
-use Rattle.wf_checker_args.proofs.CheckWords.{check_made}
-use Rattle.wf_checker_args.proofs.job.job_in.Goals as goal
+use Rattle.wf_checker.proofs.CheckWords.{check_made}
+use Rattle.wf_checker.proofs.job.job_in.Goals as goal
 
 pub returns-in_ok-from_str-in-Ok : goal.returns-in_ok-from_str-in-Ok
 returns-in_ok-from_str-in-Ok c =
