@@ -1,17 +1,15 @@
 -- From what the parser finds to what the words ask for.
-use Rattle.std.proofs.Common.{◌≡◌, ◌∙◌, refl, sym, subst, ap, ℕ, List, [], Option, Some, None, Result, Err, true}
+use Rattle.std.proofs.Common.{◌≡◌, ◌∙◌, refl, sym, subst, ap, List, [], Option, Result, Err, true}
 use Rattle.std.specs.List.{list_any}
-use Rattle.std.specs.Prelude.{string_bytes}
 use Rattle.clap.specs.Words.{App, Row, Text, fault_of, is_simple_and_free, subcommand_of, subcommand_rows_of}
 use Rattle.clap.specs.declared.parser.matches.ArgMatches.{ArgMatches}
 use Rattle.clap.proofs.OnLiterals.{clap_on_literals}
-use Rattle.wf_words.specs.Asked.{Answers, IsJob, IsRefusal, IsTaken, Path, is_negative}
+use Rattle.wf_words.specs.Asked.{Answers, IsRefusal, IsTaken, is_negative}
 use Rattle.wf_words.specs.declared.fault.WordsFault.{WordsFault}
 use Rattle.wf_words.proofs.ParsedWords as words
-use Rattle.wf_args.specs.Asked.{asked_in, job_asked, points_for}
+use Rattle.wf_args.specs.Asked.{asked_in, job_asked}
 use Rattle.wf_args.specs.CommandLine.{command_line}
-use Rattle.wf_args.specs.declared.Job.{Job}
-use Rattle.wf_args.specs.declared.Job.TheVariants as job
+use Rattle.wf_args.specs.declared.asked.Job.{Job}
 
 -- ---- the parser
 
@@ -43,11 +41,3 @@ pub refused_answered : (texts : List Text) (e : WordsFault) → IsRefusal (fault
     → Answers (job_asked texts) (Err e)
 refused_answered texts e h =
     words.refused_answered (fault_of command_line texts) (list_any is_negative texts) (asked_in (subcommand_of command_line texts)) e h
-
--- ---- the decisions of a report's map
-
-pub decisions_of : (number : Option ℕ) (found : Option Text) (path : Text) (task : Path) → None ≡ number → Some path ≡ found
-    → string_bytes task ≡ path → IsJob (points_for number found) (job.Decisions task)
-decisions_of number found path task is also bytes =
-    subst (λ o. IsJob (points_for o found) (job.Decisions task)) is
-    (subst (λ f. IsJob (points_for None f) (job.Decisions task)) also (task, bytes, refl))

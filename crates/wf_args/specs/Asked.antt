@@ -10,7 +10,7 @@ use Rattle.clap.specs.Words.{Row, Text, fault_of, first_of, subcommand_of}
 use Rattle.wf_model.specs.Limits.{most_workers}
 use Rattle.wf_preset.specs.declared.named.Preset.{Preset}
 use Rattle.wf_lines.specs.declared.form.Form.{Form}
-use Rattle.wf_words.specs.Asked.{Asked, given, is_negative, judged, needed, no_job, this_job, this_job_on}
+use Rattle.wf_words.specs.Asked.{Asked, is_negative, judged, needed, no_job, on_task, this_job}
 use Rattle.wf_words.specs.Given.{has_flag, number_of, rounds_of, task_of}
 use Rattle.wf_words.specs.declared.mistake.Piece.TheVariants as piece
 use Rattle.wf_words.specs.declared.mistake.Mistake.{Mistake}
@@ -18,14 +18,41 @@ use Rattle.wf_words.specs.declared.mistake.Mistake.TheVariants as mistake
 use Rattle.wf_args.specs.CommandLine.{command_line}
 use Rattle.wf_args.specs.Forms.{form_asked}
 use Rattle.wf_args.specs.Presets.{preset_asked}
-use Rattle.wf_args.specs.declared.Job.{Job}
-use Rattle.wf_args.specs.declared.Job.TheVariants as job
+use Rattle.wf_args.specs.declared.asked.Job.{Job}
+use Rattle.wf_args.specs.declared.asked.Job.TheVariants.{WithFile, Alone}
+use Rattle.wf_args.specs.declared.asked.FileJob.{FileJob}
+use Rattle.wf_args.specs.declared.asked.FileJob.TheVariants as filed
+use Rattle.wf_args.specs.declared.asked.LoneJob.{LoneJob}
+use Rattle.wf_args.specs.declared.asked.LoneJob.TheVariants as lone
+use Rattle.wf_args.specs.declared.asked.SolveJob.{SolveJob}
+use Rattle.wf_args.specs.declared.asked.TextJob.{TextJob}
+use Rattle.wf_args.specs.declared.asked.TextJob.TheVariants as text
 use Rattle.wf_args.specs.declared.presets.Options.{Options}
 
+-- ---- what is made of options
+
+-- what is made of something that is to be given; if it is not, that is the mistake
+abbrev pub or_mistake : {X J : Type 0} → Mistake → Option X → (X → Result J Mistake) → Result J Mistake
+or_mistake mistake (Some x) make = make x
+or_mistake mistake None make = Err mistake
+
+-- with the number of rounds
+abbrev pub for_rounds : {J : Type 0} → List Row → (ℕ → Result J Mistake) → Result J Mistake
+for_rounds rows = or_mistake (mistake.Missing piece.Rounds) (rounds_of rows)
+
 -- a job without a file, or the mistake by which there is none
-abbrev pub this_or_mistake : Result Job Mistake → Asked Job
-this_or_mistake (Ok j) = this_job j
-this_or_mistake (Err s) = no_job s
+abbrev pub alone : Result LoneJob Mistake → Asked Job
+alone (Ok what) = this_job (Alone what)
+alone (Err s) = no_job s
+
+-- the writing of a text
+abbrev pub writing : Result TextJob Mistake → Asked Job
+writing (Ok what) = this_job (Alone (lone.Text what))
+writing (Err s) = no_job s
+
+-- a job with the task in the file that is named
+abbrev pub with_file : Result FileJob Mistake → List Row → Asked Job
+with_file asked rows = on_task (λ what task. WithFile task what) asked (task_of rows)
 
 -- ---- the job of each subcommand
 
@@ -44,92 +71,80 @@ abbrev pub form_of : List Row → Option Form
 form_of rows = form_asked (has_flag (codes "verdict") rows) (has_flag (codes "least") rows)
 
 -- the search of one branch, of which there is no account
-abbrev pub branch_job : ℕ → ℕ → Form → Bool → Bool → Asked Job
-branch_job rounds branch form true progress = no_job (mistake.Beside piece.Branch piece.Account)
-branch_job rounds branch form false progress = this_job (job.SolveBranch rounds branch form progress)
+abbrev pub branch_job : SolveJob → ℕ → Result LoneJob Mistake
+branch_job asked branch =
+    if asked.account then Err (mistake.Beside piece.Branch piece.Account) else Ok (lone.SolveBranch asked.rounds branch asked.form asked.progress)
 
 -- the search of all branches, or of one where it is named
-abbrev pub solve_in : Option ℕ → ℕ → ℕ → Form → Bool → Bool → Asked Job
-solve_in None rounds workers form account progress = this_job (job.Solve rounds workers form account progress)
-solve_in (Some branch) rounds workers form account progress = branch_job rounds branch form account progress
+abbrev pub solve_in : Option ℕ → SolveJob → Result LoneJob Mistake
+solve_in None asked = Ok (lone.Solve asked)
+solve_in (Some branch) asked = branch_job asked branch
 
-abbrev pub solve_asked : List Row → Asked Job
+abbrev pub solve_asked : List Row → Result LoneJob Mistake
 solve_asked rows =
-    needed piece.Rounds (rounds_of rows) (λ rounds. given mistake.Workers (workers_of rows) (λ workers.
-    given (mistake.Beside piece.Verdict piece.Least) (form_of rows) (λ form. solve_in (branch_of rows) rounds workers form
-    (has_flag (codes "account") rows) (has_flag (codes "progress") rows))))
+    for_rounds rows (λ rounds. or_mistake mistake.Workers (workers_of rows) (λ workers.
+    or_mistake (mistake.Beside piece.Verdict piece.Least) (form_of rows) (λ form. solve_in (branch_of rows) (record {
+      rounds = rounds;
+      workers = workers;
+      form = form;
+      account = has_flag (codes "account") rows;
+      progress = has_flag (codes "progress") rows;
+    }))))
 
--- a report about the whole is checked
-abbrev pub verify_whole : List Row → Asked Job
-verify_whole rows = needed piece.Task (task_of rows) (λ path. this_job_on path (λ task. job.Verify task (rounds_of rows)))
+-- by `--branch` and `--long`, of which one at most may be given; a part is checked for the rounds
+-- that are given with it
+abbrev pub verify_in : Option ℕ → Bool → Option ℕ → Result FileJob Mistake
+verify_in None false rounds = Ok (filed.Verify rounds)
+verify_in None true rounds = Ok (filed.VerifyLong rounds)
+verify_in (Some branch) false rounds =
+    or_mistake (mistake.Needs piece.Branch piece.Rounds) rounds (λ rounds. Ok (filed.VerifyBranch rounds branch))
+verify_in (Some branch) true rounds = Err (mistake.Beside piece.Long piece.Branch)
 
--- a part about a branch is checked, for the rounds that are given with it
-abbrev pub verify_branch : ℕ → List Row → Asked Job
-verify_branch branch rows =
-    needed piece.Task (task_of rows) (λ path. given (mistake.Needs piece.Branch piece.Rounds) (rounds_of rows) (λ rounds.
-    this_job_on path (λ task. job.VerifyBranch task rounds branch)))
+abbrev pub verify_asked : List Row → Result FileJob Mistake
+verify_asked rows = verify_in (branch_of rows) (has_flag (codes "long") rows) (rounds_of rows)
 
--- a report of any length is checked
-abbrev pub verify_long : List Row → Asked Job
-verify_long rows = needed piece.Task (task_of rows) (λ path. this_job_on path (λ task. job.VerifyLong task (rounds_of rows)))
-
--- by `--branch` and `--long`, of which one at most may be given
-abbrev pub verify_in : Option ℕ → Bool → List Row → Asked Job
-verify_in None false rows = verify_whole rows
-verify_in None true rows = verify_long rows
-verify_in (Some branch) false rows = verify_branch branch rows
-verify_in (Some branch) true rows = no_job (mistake.Beside piece.Long piece.Branch)
-
-abbrev pub verify_asked : List Row → Asked Job
-verify_asked rows = verify_in (branch_of rows) (has_flag (codes "long") rows) rows
-
-abbrev pub views_asked : List Row → Asked Job
-views_asked rows = needed piece.Rounds (rounds_of rows) (λ rounds. this_job (job.Views rounds))
+abbrev pub views_asked : List Row → Result TextJob Mistake
+views_asked rows = for_rounds rows (λ rounds. Ok (text.Views rounds))
 
 -- one of `--rounds` and `--task` is given
-abbrev pub points_for : Option ℕ → Option Text → Asked Job
-points_for (Some rounds) None = this_job (job.Points rounds)
-points_for None (Some path) = this_job_on path (λ task. job.Decisions task)
-points_for (Some rounds) (Some path) = no_job (mistake.Beside piece.Rounds piece.Task)
-points_for None None = no_job (mistake.Neither piece.Rounds piece.Task)
+abbrev pub points_for : Option ℕ → Option Text → List Row → Asked Job
+points_for (Some rounds) None rows = writing (Ok (text.Points rounds))
+points_for None (Some path) rows = with_file (Ok filed.Decisions) rows
+points_for (Some rounds) (Some path) rows = no_job (mistake.Beside piece.Rounds piece.Task)
+points_for None None rows = no_job (mistake.Neither piece.Rounds piece.Task)
 
 abbrev pub points_asked : List Row → Asked Job
-points_asked rows = points_for (rounds_of rows) (task_of rows)
+points_asked rows = points_for (rounds_of rows) (task_of rows) rows
 
-abbrev pub branches_asked : List Row → Asked Job
-branches_asked rows = needed piece.Rounds (rounds_of rows) (λ rounds. this_job (job.Branches rounds))
+abbrev pub branches_asked : List Row → Result TextJob Mistake
+branches_asked rows = for_rounds rows (λ rounds. Ok (text.Branches rounds))
 
-abbrev pub join_asked : List Row → Asked Job
-join_asked rows =
-    needed piece.Task (task_of rows) (λ path. needed piece.Rounds (rounds_of rows) (λ rounds. this_job_on path (λ task. job.Join task rounds)))
+abbrev pub join_asked : List Row → Result FileJob Mistake
+join_asked rows = for_rounds rows (λ rounds. Ok (filed.Join rounds))
 
-abbrev pub cnf_asked : List Row → Asked Job
-cnf_asked rows = needed piece.Rounds (rounds_of rows) (λ rounds. this_job (job.Cnf rounds (branch_of rows)))
+abbrev pub cnf_asked : List Row → Result TextJob Mistake
+cnf_asked rows = for_rounds rows (λ rounds. Ok (text.Cnf rounds (branch_of rows)))
 
-abbrev pub model_asked : List Row → Asked Job
-model_asked rows =
-    needed piece.Task (task_of rows) (λ path. needed piece.Rounds (rounds_of rows) (λ rounds. this_job_on path (λ task. job.Model task rounds)))
+abbrev pub model_asked : List Row → Result FileJob Mistake
+model_asked rows = for_rounds rows (λ rounds. Ok (filed.Model rounds))
 
-abbrev pub proof_asked : List Row → Asked Job
-proof_asked rows =
-    needed piece.Task (task_of rows) (λ path. needed piece.Rounds (rounds_of rows) (λ rounds. this_job_on path (λ task. job.Proof task rounds
-    (branch_of rows) (has_flag (codes "lrat") rows) (has_flag (codes "progress") rows))))
+abbrev pub proof_asked : List Row → Result FileJob Mistake
+proof_asked rows = for_rounds rows (λ rounds. Ok (filed.Proof (record {
+  rounds = rounds;
+  branch = branch_of rows;
+  hints = has_flag (codes "lrat") rows;
+  progress = has_flag (codes "progress") rows;
+})))
 
-abbrev pub trim_asked : List Row → Asked Job
-trim_asked rows = needed piece.Task (task_of rows) (λ path. this_job_on path (λ task. job.Trim task))
+abbrev pub lift_asked : List Row → FileJob
+lift_asked rows = filed.Lift (rounds_of rows)
 
-abbrev pub explain_asked : List Row → Asked Job
-explain_asked rows = needed piece.Task (task_of rows) (λ path. this_job_on path (λ task. job.Explain task))
+abbrev pub executions_asked : List Row → Result TextJob Mistake
+executions_asked rows = for_rounds rows (λ rounds. Ok (text.Executions rounds))
 
-abbrev pub lift_asked : List Row → Asked Job
-lift_asked rows = needed piece.Task (task_of rows) (λ path. this_job_on path (λ task. job.Lift task (rounds_of rows)))
-
-abbrev pub executions_asked : List Row → Asked Job
-executions_asked rows = needed piece.Rounds (rounds_of rows) (λ rounds. this_job (job.Executions rounds))
-
-abbrev pub obstruction_asked : List Row → Asked Job
+abbrev pub obstruction_asked : List Row → LoneJob
 obstruction_asked rows =
-    this_job (job.Obstruction (number_of (codes "modulus") rows) (unwrap_or (number_of (codes "covers") rows) 0) (has_flag (codes "progress") rows))
+    lone.Obstruction (number_of (codes "modulus") rows) (unwrap_or (number_of (codes "covers") rows) 0) (has_flag (codes "progress") rows)
 
 -- the options of a preset
 abbrev pub options_of : List Row → ℕ → Options
@@ -140,33 +155,36 @@ options_of rows processes = record {
   names = number_of (codes "names") rows;
 }
 
--- the job of a preset, or the mistake by which there is none
-abbrev pub this_preset : Result Preset Mistake → Asked Job
-this_preset (Ok preset) = this_job (job.Preset preset)
-this_preset (Err s) = no_job s
+-- the writing of a preset, or the mistake by which there is none
+abbrev pub this_preset : Result Preset Mistake → Result TextJob Mistake
+this_preset (Ok preset) = Ok (text.Preset preset)
+this_preset (Err s) = Err s
 
-abbrev pub preset_job_asked : List Row → Asked Job
+abbrev pub preset_job_asked : List Row → Result TextJob Mistake
 preset_job_asked rows =
-    needed piece.Kind (first_of (codes "kind") rows) (λ kind. needed piece.Processes (number_of (codes "processes") rows) (λ processes.
+    or_mistake (mistake.Missing piece.Kind) (first_of (codes "kind") rows) (λ kind.
+    or_mistake (mistake.Missing piece.Processes) (number_of (codes "processes") rows) (λ processes.
     this_preset (preset_asked kind (options_of rows processes))))
 
--- the subcommands
+-- ---- the subcommands
+
+-- what each of them asks for, by its options
 abbrev pub jobs : List (Text × (List Row → Asked Job))
-jobs = (codes "solve", solve_asked)
-    ∷ (codes "verify", verify_asked)
-    ∷ (codes "views", views_asked)
+jobs = (codes "solve", λ rows. alone (solve_asked rows))
+    ∷ (codes "verify", λ rows. with_file (verify_asked rows) rows)
+    ∷ (codes "views", λ rows. writing (views_asked rows))
     ∷ (codes "points", points_asked)
-    ∷ (codes "branches", branches_asked)
-    ∷ (codes "join", join_asked)
-    ∷ (codes "cnf", cnf_asked)
-    ∷ (codes "model", model_asked)
-    ∷ (codes "proof", proof_asked)
-    ∷ (codes "trim", trim_asked)
-    ∷ (codes "explain", explain_asked)
-    ∷ (codes "lift", lift_asked)
-    ∷ (codes "executions", executions_asked)
-    ∷ (codes "obstruction", obstruction_asked)
-    ∷ (codes "preset", preset_job_asked) ∷ []
+    ∷ (codes "branches", λ rows. writing (branches_asked rows))
+    ∷ (codes "join", λ rows. with_file (join_asked rows) rows)
+    ∷ (codes "cnf", λ rows. writing (cnf_asked rows))
+    ∷ (codes "model", λ rows. with_file (model_asked rows) rows)
+    ∷ (codes "proof", λ rows. with_file (proof_asked rows) rows)
+    ∷ (codes "trim", λ rows. with_file (Ok filed.Trim) rows)
+    ∷ (codes "explain", λ rows. with_file (Ok filed.Explain) rows)
+    ∷ (codes "lift", λ rows. with_file (Ok (lift_asked rows)) rows)
+    ∷ (codes "executions", λ rows. writing (executions_asked rows))
+    ∷ (codes "obstruction", λ rows. alone (Ok (obstruction_asked rows)))
+    ∷ (codes "preset", λ rows. writing (preset_job_asked rows)) ∷ []
 
 -- what the subcommand of this name asks for, by its options
 abbrev pub asked_of : Text → List Row → Asked Job

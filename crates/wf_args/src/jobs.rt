@@ -3,16 +3,15 @@
 ghost use Rattle.std.specs.Prelude.{◌≡◌, ◌<◌, ◌≤◌, IfOk, IfSome, option_map};
 ghost use Rattle.wf_model.specs.Limits.{most_workers};
 ghost use Rattle.clap.specs.Words.{found_of, rows_of, subcommand_rows_of};
-ghost use Rattle.wf_words.specs.Asked.{Answers, this_job};
-ghost use Rattle.wf_args.specs.Job.{CanBeDone};
-ghost use Rattle.wf_args.specs.Asked.{this_or_mistake, asked_in, asked_of, branch_job, branches_asked, cnf_asked, executions_asked, explain_asked, join_asked, lift_asked, model_asked, obstruction_asked, points_asked, preset_job_asked, proof_asked, solve_asked, trim_asked, verify_asked, verify_branch, verify_long, verify_whole, views_asked, workers_of};
+ghost use Rattle.wf_words.specs.Asked.{Answers};
+ghost use Rattle.wf_args.specs.Job.{CanBeDone, CanBeDoneAlone};
+ghost use Rattle.wf_args.specs.Asked.{alone, asked_in, asked_of, branch_job, branches_asked, cnf_asked, executions_asked, join_asked, lift_asked, model_asked, obstruction_asked, points_asked, preset_job_asked, proof_asked, solve_asked, verify_asked, views_asked, with_file, workers_of, writing};
 
-use crate::Job;
+use crate::asked::{FileJob, Job, LoneJob, ProofJob, SolveJob, TextJob};
 use crate::forms::form_of;
 use crate::presets::Options;
 use clap::ArgMatches;
 use std::alloc::Global;
-use wf_lines::Form;
 use wf_words::found::{flag, number, text};
 use wf_words::{MOST_WORKERS, Mistake, Piece, WordsFault, missing};
 
@@ -54,42 +53,74 @@ fn job_of(alloc: Global, name: &str, found: &ArgMatches<'_>) -> Result<Job, Word
     ensures can_be_done { IfOk result CanBeDone }
 {
     match name {
-        "solve" => this(solve_job(found)),
-        "verify" => verify_job(alloc, found),
-        "views" => this(views_job(found)),
+        "solve" => alone(solve_job(found)),
+        "verify" => with_file(alloc, found, verify_job(found)),
+        "views" => writing(views_job(found)),
         "points" => points_job(alloc, found),
-        "branches" => this(branches_job(found)),
-        "join" => join_job(alloc, found),
-        "cnf" => this(cnf_job(found)),
-        "model" => model_job(alloc, found),
-        "proof" => proof_job(alloc, found),
-        "trim" => trim_job(alloc, found),
-        "explain" => explain_job(alloc, found),
-        "lift" => lift_job(alloc, found),
-        "executions" => this(executions_job(found)),
-        "obstruction" => this(Ok(obstruction_job(found))),
-        "preset" => this(preset_job(found)),
+        "branches" => writing(branches_job(found)),
+        "join" => with_file(alloc, found, join_job(found)),
+        "cnf" => writing(cnf_job(found)),
+        "model" => with_file(alloc, found, model_job(found)),
+        "proof" => with_file(alloc, found, proof_job(found)),
+        "trim" => with_file(alloc, found, Ok(FileJob::Trim)),
+        "explain" => with_file(alloc, found, Ok(FileJob::Explain)),
+        "lift" => with_file(alloc, found, Ok(lift_job(found))),
+        "executions" => writing(executions_job(found)),
+        "obstruction" => alone(Ok(obstruction_job(found))),
+        "preset" => writing(preset_job(found)),
         _ => Err(missing(Piece::Command)),
     }
 }
 
 /// A job without a file, or its mistake.
-fn this(found: Result<Job, Mistake>) -> Result<Job, WordsFault>
-    requires { IfOk found CanBeDone }
-    ensures asked { Answers (this_or_mistake found) result }
+fn alone(asked: Result<LoneJob, Mistake>) -> Result<Job, WordsFault>
+    requires { IfOk asked CanBeDoneAlone }
+    ensures asked { Answers (alone asked) result }
     ensures can_be_done { IfOk result CanBeDone }
 {
-    match found {
-        Ok(job) => Ok(job),
+    match asked {
+        Ok(job) => Ok(Job::Alone(job)),
+        Err(mistake) => Err(WordsFault::Words(mistake)),
+    }
+}
+
+/// The writing of a text, or its mistake.
+fn writing(asked: Result<TextJob, Mistake>) -> Result<Job, WordsFault>
+    ensures asked { Answers (writing asked) result }
+    ensures can_be_done { IfOk result CanBeDone }
+{
+    match asked {
+        Ok(text) => Ok(Job::Alone(LoneJob::Text(text))),
+        Err(mistake) => Err(WordsFault::Words(mistake)),
+    }
+}
+
+/// A job with the task in the file that is named, or its mistake.
+fn with_file(
+    alloc: Global,
+    found: &ArgMatches<'_>,
+    asked: Result<FileJob, Mistake>,
+) -> Result<Job, WordsFault>
+    ensures asked { Answers (with_file asked (rows_of (found_of found.now))) result }
+    ensures can_be_done { IfOk result CanBeDone }
+{
+    let Some(task) = text(found, "task") else {
+        return Err(missing(Piece::Task));
+    };
+    match asked {
+        Ok(job) => Ok(Job::WithFile {
+            task: String::from_str(alloc, task)?,
+            job,
+        }),
         Err(mistake) => Err(WordsFault::Words(mistake)),
     }
 }
 
 /// The job of `solve`. There is none with both `--verdict` and `--least`, nor
 /// with both `--branch` and `--account`.
-fn solve_job(found: &ArgMatches<'_>) -> Result<Job, Mistake>
-    ensures asked { this_or_mistake result ≡ solve_asked (rows_of (found_of found.now)) }
-    ensures can_be_done { IfOk result CanBeDone }
+fn solve_job(found: &ArgMatches<'_>) -> Result<LoneJob, Mistake>
+    ensures asked { result ≡ solve_asked (rows_of (found_of found.now)) }
+    ensures can_be_done { IfOk result CanBeDoneAlone }
 {
     let rounds = number(found, "rounds").ok_or(Mistake::Missing(Piece::Rounds))?;
     let workers = workers(found).ok_or(Mistake::Workers)?;
@@ -97,106 +128,58 @@ fn solve_job(found: &ArgMatches<'_>) -> Result<Job, Mistake>
         Piece::Verdict,
         Piece::Least,
     ))?;
-    let account = flag(found, "account");
-    let progress = flag(found, "progress");
+    let job = SolveJob {
+        rounds,
+        workers,
+        form,
+        account: flag(found, "account"),
+        progress: flag(found, "progress"),
+    };
     match number(found, "branch") {
-        Some(branch) => branch_job(rounds, branch, form, account, progress),
-        None => Ok(Job::Solve {
-            rounds,
-            workers,
-            form,
-            account,
-            progress,
-        }),
+        Some(branch) => branch_job(job, branch),
+        None => Ok(LoneJob::Solve(job)),
     }
 }
 
 /// The job of `solve` with `--branch`. There is no account of one branch.
-fn branch_job(
-    rounds: u32,
-    branch: u32,
-    form: Form,
-    account: bool,
-    progress: bool,
-) -> Result<Job, Mistake>
-    ensures asked { this_or_mistake result ≡ branch_job rounds branch form account progress }
-    ensures can_be_done { IfOk result CanBeDone }
+fn branch_job(job: SolveJob, branch: u32) -> Result<LoneJob, Mistake>
+    ensures asked { result ≡ branch_job job branch }
+    ensures can_be_done { IfOk result CanBeDoneAlone }
 {
-    if account {
+    if job.account {
         return Err(Mistake::Beside(Piece::Branch, Piece::Account));
     }
-    Ok(Job::SolveBranch {
-        rounds,
+    Ok(LoneJob::SolveBranch {
+        rounds: job.rounds,
         branch,
-        form,
-        progress,
+        form: job.form,
+        progress: job.progress,
     })
 }
 
-/// The job of `verify`. There is none with both `--branch` and `--long`.
-fn verify_job(alloc: Global, found: &ArgMatches<'_>) -> Result<Job, WordsFault>
-    ensures asked { Answers (verify_asked (rows_of (found_of found.now))) result }
-    ensures can_be_done { IfOk result CanBeDone }
+/// The job of `verify`. There is none with both `--branch` and `--long`, and `--branch` needs
+/// `--rounds`.
+fn verify_job(found: &ArgMatches<'_>) -> Result<FileJob, Mistake>
+    ensures { result ≡ verify_asked (rows_of (found_of found.now)) }
 {
+    let rounds = number(found, "rounds");
     match (number(found, "branch"), flag(found, "long")) {
-        (None, false) => verify_whole(alloc, found),
-        (None, true) => verify_long(alloc, found),
-        (Some(branch), false) => verify_branch(alloc, found, branch),
-        (Some(_), true) => Err(WordsFault::Words(Mistake::Beside(Piece::Long, Piece::Branch))),
-    }
-}
-
-/// The job of `verify` with `--long`.
-fn verify_long(alloc: Global, found: &ArgMatches<'_>) -> Result<Job, WordsFault>
-    ensures asked { Answers (verify_long (rows_of (found_of found.now))) result }
-    ensures can_be_done { IfOk result CanBeDone }
-{
-    match text(found, "task") {
-        Some(task) => Ok(Job::VerifyLong {
-            task: String::from_str(alloc, task)?,
-            rounds: number(found, "rounds"),
-        }),
-        None => Err(missing(Piece::Task)),
-    }
-}
-
-/// The job of `verify` with `--branch`, which needs `--rounds`.
-fn verify_branch(alloc: Global, found: &ArgMatches<'_>, branch: u32) -> Result<Job, WordsFault>
-    ensures asked { Answers (verify_branch branch (rows_of (found_of found.now))) result }
-    ensures can_be_done { IfOk result CanBeDone }
-{
-    match (text(found, "task"), number(found, "rounds")) {
-        (Some(task), Some(rounds)) => Ok(Job::VerifyBranch {
-            task: String::from_str(alloc, task)?,
-            rounds,
+        (None, false) => Ok(FileJob::Verify(rounds)),
+        (None, true) => Ok(FileJob::VerifyLong(rounds)),
+        (Some(branch), false) => Ok(FileJob::VerifyBranch {
+            rounds: rounds.ok_or(Mistake::Needs(Piece::Branch, Piece::Rounds))?,
             branch,
         }),
-        (None, _) => Err(missing(Piece::Task)),
-        (Some(_), None) => Err(WordsFault::Words(Mistake::Needs(Piece::Branch, Piece::Rounds))),
-    }
-}
-
-/// The job of `verify` with neither `--branch` nor `--long`.
-fn verify_whole(alloc: Global, found: &ArgMatches<'_>) -> Result<Job, WordsFault>
-    ensures asked { Answers (verify_whole (rows_of (found_of found.now))) result }
-    ensures can_be_done { IfOk result CanBeDone }
-{
-    match text(found, "task") {
-        Some(task) => Ok(Job::Verify {
-            task: String::from_str(alloc, task)?,
-            rounds: number(found, "rounds"),
-        }),
-        None => Err(missing(Piece::Task)),
+        (Some(_), true) => Err(Mistake::Beside(Piece::Long, Piece::Branch)),
     }
 }
 
 /// The job of `views`.
-fn views_job(found: &ArgMatches<'_>) -> Result<Job, Mistake>
-    ensures asked { this_or_mistake result ≡ views_asked (rows_of (found_of found.now)) }
-    ensures can_be_done { IfOk result CanBeDone }
+fn views_job(found: &ArgMatches<'_>) -> Result<TextJob, Mistake>
+    ensures { result ≡ views_asked (rows_of (found_of found.now)) }
 {
     let rounds = number(found, "rounds").ok_or(Mistake::Missing(Piece::Rounds))?;
-    Ok(Job::Views { rounds })
+    Ok(TextJob::Views(rounds))
 }
 
 /// The job of `points`: there is one with `--rounds` or with `--task`, and none with both.
@@ -205,139 +188,82 @@ fn points_job(alloc: Global, found: &ArgMatches<'_>) -> Result<Job, WordsFault>
     ensures can_be_done { IfOk result CanBeDone }
 {
     match (number(found, "rounds"), text(found, "task")) {
-        (Some(rounds), None) => Ok(Job::Points { rounds }),
-        (None, Some(task)) => Ok(Job::Decisions {
-            task: String::from_str(alloc, task)?,
-        }),
+        (Some(rounds), None) => writing(Ok(TextJob::Points(rounds))),
+        (None, Some(_)) => with_file(alloc, found, Ok(FileJob::Decisions)),
         (Some(_), Some(_)) => Err(WordsFault::Words(Mistake::Beside(Piece::Rounds, Piece::Task))),
         (None, None) => Err(WordsFault::Words(Mistake::Neither(Piece::Rounds, Piece::Task))),
     }
 }
 
 /// The job of `branches`.
-fn branches_job(found: &ArgMatches<'_>) -> Result<Job, Mistake>
-    ensures asked { this_or_mistake result ≡ branches_asked (rows_of (found_of found.now)) }
-    ensures can_be_done { IfOk result CanBeDone }
+fn branches_job(found: &ArgMatches<'_>) -> Result<TextJob, Mistake>
+    ensures { result ≡ branches_asked (rows_of (found_of found.now)) }
 {
     let rounds = number(found, "rounds").ok_or(Mistake::Missing(Piece::Rounds))?;
-    Ok(Job::Branches { rounds })
+    Ok(TextJob::Branches(rounds))
 }
 
 /// The job of `join`.
-fn join_job(alloc: Global, found: &ArgMatches<'_>) -> Result<Job, WordsFault>
-    ensures asked { Answers (join_asked (rows_of (found_of found.now))) result }
-    ensures can_be_done { IfOk result CanBeDone }
+fn join_job(found: &ArgMatches<'_>) -> Result<FileJob, Mistake>
+    ensures { result ≡ join_asked (rows_of (found_of found.now)) }
 {
-    match (text(found, "task"), number(found, "rounds")) {
-        (Some(task), Some(rounds)) => Ok(Job::Join {
-            task: String::from_str(alloc, task)?,
-            rounds,
-        }),
-        (None, _) => Err(missing(Piece::Task)),
-        (Some(_), None) => Err(missing(Piece::Rounds)),
-    }
+    let rounds = number(found, "rounds").ok_or(Mistake::Missing(Piece::Rounds))?;
+    Ok(FileJob::Join(rounds))
 }
 
 /// The job of `cnf`.
-fn cnf_job(found: &ArgMatches<'_>) -> Result<Job, Mistake>
-    ensures asked { this_or_mistake result ≡ cnf_asked (rows_of (found_of found.now)) }
-    ensures can_be_done { IfOk result CanBeDone }
+fn cnf_job(found: &ArgMatches<'_>) -> Result<TextJob, Mistake>
+    ensures { result ≡ cnf_asked (rows_of (found_of found.now)) }
 {
     let rounds = number(found, "rounds").ok_or(Mistake::Missing(Piece::Rounds))?;
-    Ok(Job::Cnf {
+    Ok(TextJob::Cnf {
         rounds,
         branch: number(found, "branch"),
     })
 }
 
 /// The job of `model`.
-fn model_job(alloc: Global, found: &ArgMatches<'_>) -> Result<Job, WordsFault>
-    ensures asked { Answers (model_asked (rows_of (found_of found.now))) result }
-    ensures can_be_done { IfOk result CanBeDone }
+fn model_job(found: &ArgMatches<'_>) -> Result<FileJob, Mistake>
+    ensures { result ≡ model_asked (rows_of (found_of found.now)) }
 {
-    match (text(found, "task"), number(found, "rounds")) {
-        (Some(task), Some(rounds)) => Ok(Job::Model {
-            task: String::from_str(alloc, task)?,
-            rounds,
-        }),
-        (None, _) => Err(missing(Piece::Task)),
-        (Some(_), None) => Err(missing(Piece::Rounds)),
-    }
+    let rounds = number(found, "rounds").ok_or(Mistake::Missing(Piece::Rounds))?;
+    Ok(FileJob::Model(rounds))
 }
 
 /// The job of `proof`.
-fn proof_job(alloc: Global, found: &ArgMatches<'_>) -> Result<Job, WordsFault>
-    ensures asked { Answers (proof_asked (rows_of (found_of found.now))) result }
-    ensures can_be_done { IfOk result CanBeDone }
+fn proof_job(found: &ArgMatches<'_>) -> Result<FileJob, Mistake>
+    ensures { result ≡ proof_asked (rows_of (found_of found.now)) }
 {
-    match (text(found, "task"), number(found, "rounds")) {
-        (Some(task), Some(rounds)) => Ok(Job::Proof {
-            task: String::from_str(alloc, task)?,
-            rounds,
-            branch: number(found, "branch"),
-            hints: flag(found, "lrat"),
-            progress: flag(found, "progress"),
-        }),
-        (None, _) => Err(missing(Piece::Task)),
-        (Some(_), None) => Err(missing(Piece::Rounds)),
-    }
-}
-
-/// The job of `trim`.
-fn trim_job(alloc: Global, found: &ArgMatches<'_>) -> Result<Job, WordsFault>
-    ensures asked { Answers (trim_asked (rows_of (found_of found.now))) result }
-    ensures can_be_done { IfOk result CanBeDone }
-{
-    match text(found, "task") {
-        Some(task) => Ok(Job::Trim {
-            task: String::from_str(alloc, task)?,
-        }),
-        None => Err(missing(Piece::Task)),
-    }
-}
-
-/// The job of `explain`.
-fn explain_job(alloc: Global, found: &ArgMatches<'_>) -> Result<Job, WordsFault>
-    ensures asked { Answers (explain_asked (rows_of (found_of found.now))) result }
-    ensures can_be_done { IfOk result CanBeDone }
-{
-    match text(found, "task") {
-        Some(task) => Ok(Job::Explain {
-            task: String::from_str(alloc, task)?,
-        }),
-        None => Err(missing(Piece::Task)),
-    }
+    let rounds = number(found, "rounds").ok_or(Mistake::Missing(Piece::Rounds))?;
+    Ok(FileJob::Proof(ProofJob {
+        rounds,
+        branch: number(found, "branch"),
+        hints: flag(found, "lrat"),
+        progress: flag(found, "progress"),
+    }))
 }
 
 /// The job of `lift`.
-fn lift_job(alloc: Global, found: &ArgMatches<'_>) -> Result<Job, WordsFault>
-    ensures asked { Answers (lift_asked (rows_of (found_of found.now))) result }
-    ensures can_be_done { IfOk result CanBeDone }
+fn lift_job(found: &ArgMatches<'_>) -> FileJob
+    ensures { result ≡ lift_asked (rows_of (found_of found.now)) }
 {
-    match text(found, "task") {
-        Some(task) => Ok(Job::Lift {
-            task: String::from_str(alloc, task)?,
-            rounds: number(found, "rounds"),
-        }),
-        None => Err(missing(Piece::Task)),
-    }
+    FileJob::Lift(number(found, "rounds"))
 }
 
 /// The job of `executions`.
-fn executions_job(found: &ArgMatches<'_>) -> Result<Job, Mistake>
-    ensures asked { this_or_mistake result ≡ executions_asked (rows_of (found_of found.now)) }
-    ensures can_be_done { IfOk result CanBeDone }
+fn executions_job(found: &ArgMatches<'_>) -> Result<TextJob, Mistake>
+    ensures { result ≡ executions_asked (rows_of (found_of found.now)) }
 {
     let rounds = number(found, "rounds").ok_or(Mistake::Missing(Piece::Rounds))?;
-    Ok(Job::Executions { rounds })
+    Ok(TextJob::Executions(rounds))
 }
 
 /// The job of `obstruction`.
-fn obstruction_job(found: &ArgMatches<'_>) -> Job
-    ensures asked { this_job result ≡ obstruction_asked (rows_of (found_of found.now)) }
-    ensures can_be_done { CanBeDone result }
+fn obstruction_job(found: &ArgMatches<'_>) -> LoneJob
+    ensures asked { result ≡ obstruction_asked (rows_of (found_of found.now)) }
+    ensures can_be_done { CanBeDoneAlone result }
 {
-    Job::Obstruction {
+    LoneJob::Obstruction {
         modulus: number(found, "modulus"),
         covers: number(found, "covers").unwrap_or(0),
         progress: flag(found, "progress"),
@@ -345,9 +271,8 @@ fn obstruction_job(found: &ArgMatches<'_>) -> Job
 }
 
 /// The job of `preset`.
-fn preset_job(found: &ArgMatches<'_>) -> Result<Job, Mistake>
-    ensures asked { this_or_mistake result ≡ preset_job_asked (rows_of (found_of found.now)) }
-    ensures can_be_done { IfOk result CanBeDone }
+fn preset_job(found: &ArgMatches<'_>) -> Result<TextJob, Mistake>
+    ensures { result ≡ preset_job_asked (rows_of (found_of found.now)) }
 {
     let kind = text(found, "kind").ok_or(Mistake::Missing(Piece::Kind))?;
     let options = Options {
@@ -356,5 +281,5 @@ fn preset_job(found: &ArgMatches<'_>) -> Result<Job, Mistake>
         values: number(found, "values"),
         names: number(found, "names"),
     };
-    Ok(Job::Preset(options.preset(kind)?))
+    Ok(TextJob::Preset(options.preset(kind)?))
 }

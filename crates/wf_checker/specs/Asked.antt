@@ -2,7 +2,7 @@
 use Rattle.std.specs.Prelude.{ℕ, Bool, true, false, List, Option, Some, None, Result, Ok, Err, codes}
 use Rattle.std.specs.List.{list_any}
 use Rattle.clap.specs.Words.{Row, Text, fault_of, matches_of}
-use Rattle.wf_words.specs.Asked.{Asked, is_negative, judged, needed, no_job, this_job_on}
+use Rattle.wf_words.specs.Asked.{Asked, is_negative, judged, on_task}
 use Rattle.wf_words.specs.Given.{has_flag, rounds_of, task_of}
 use Rattle.wf_words.specs.declared.mistake.Piece.{Piece}
 use Rattle.wf_words.specs.declared.mistake.Piece.TheVariants as piece
@@ -31,14 +31,9 @@ check_for false true true rounds = Err (mistake.Beside piece.Long piece.Lrat)
 abbrev pub check_in : List Row → Result Check Mistake
 check_in rows = check_for (has_flag (codes "proof") rows) (has_flag (codes "lrat") rows) (has_flag (codes "long") rows) (rounds_of rows)
 
--- this check of the task in a file, or the mistake by which there is none
-abbrev pub check_on : Text → Result Check Mistake → Asked CheckJob
-check_on path (Ok check) = this_job_on path (λ task. record { task = task; check = check })
-check_on path (Err s) = no_job s
-
 -- what the options ask for
 abbrev pub check_asked : List Row → Asked CheckJob
-check_asked rows = needed piece.Task (task_of rows) (λ path. check_on path (check_in rows))
+check_asked rows = on_task (λ check task. record { task = task; check = check }) (check_in rows) (task_of rows)
 
 -- what the words ask for, of which the first is the program's own name
 abbrev pub job_asked : List Text → Asked CheckJob

@@ -6,13 +6,20 @@ use Rattle.wf_model.specs.ViewsText.{views_text}
 use Rattle.wf_formula.specs.Dimacs.{question_text}
 use Rattle.wf_formula.specs.Branches.{branch_text}
 use Rattle.wf_core.specs.declared.Account.{Account}
+use Rattle.wf_lines.specs.declared.form.Form.{Form}
 use Rattle.wf_io.specs.Seen.{Reading, Writing}
 use Rattle.wf_argument_words.specs.Listing.{executions_text}
 use Rattle.wf_long.specs.Long.{most_report_bytes}
 use Rattle.wf_long.proofs.LongCounts.{long_counted}
 use Rattle.wf_words.specs.declared.fault.WordsFault.{WordsFault}
-use Rattle.wf_args.specs.declared.Job.{Job}
-use Rattle.wf_args.specs.declared.Job.TheVariants as job
+use Rattle.wf_args.specs.declared.asked.Job.{Job}
+use Rattle.wf_args.specs.declared.asked.Job.TheVariants as job
+use Rattle.wf_args.specs.declared.asked.FileJob.{FileJob}
+use Rattle.wf_args.specs.declared.asked.FileJob.TheVariants as filed
+use Rattle.wf_args.specs.declared.asked.LoneJob.{LoneJob}
+use Rattle.wf_args.specs.declared.asked.LoneJob.TheVariants as lone
+use Rattle.wf_args.specs.declared.asked.TextJob.{TextJob}
+use Rattle.wf_args.specs.declared.asked.TextJob.TheVariants as text
 use Rattle.wf_engine.specs.declared.outcome.Outcome.{Outcome}
 use Rattle.wf_engine.specs.declared.outcome.Outcome.TheVariants.{Map, Nothing}
 use Rattle.wf_engine.specs.Texts.{IsFound, IsSolved}
@@ -28,7 +35,6 @@ use Rattle.wf_verify_engine.proofs.ModelCounts.{modelled}
 use Rattle.wf_verify_engine.proofs.ProofCounts.{proved}
 use Rattle.wf_verify_engine.proofs.HintCounts.{proved_by_hints}
 use Rattle.wf_branches.specs.Branches.{IsBranchTextOf}
-use Rattle.wf_branches.specs.Joining.{most_parts_bytes}
 use Rattle.wf_branches.specs.Listing.{branches_text}
 use Rattle.wf_branches.specs.Solving.{IsSolvedIn}
 use Rattle.wf_branches.proofs.Counts.{branch_counted, branch_proved}
@@ -53,19 +59,8 @@ use Rattle.wf_service.specs.declared.refusal.Refusal.TheVariants as refusal
 use Rattle.wf_service.proofs.DeclinedWords as service
 use Rattle.wf_service.proofs.DeclinedWords.{calls_of_fault, has_status, none_failed, two_or_three}
 use Rattle.wf_program.specs.declared.done.Done.{Done}
-use Rattle.wf_program.specs.declared.filed.FileJob.{FileJob}
-use Rattle.wf_program.specs.declared.filed.FileJob.TheVariants as filed
-use Rattle.wf_program.specs.declared.texts.TextJob.{TextJob}
-use Rattle.wf_program.specs.declared.texts.TextJob.TheVariants as text
-use Rattle.wf_program.specs.Program.{ChecksProofBy, DoesAsked, DoesWithFile, Ends, ListsQuestion, WritesTextOf, finished, searched, solved, sought, written}
-use Rattle.wf_program.specs.Laws.{IsServed, file_count, most_read}
-
--- how many bytes the text may have that is read of the source
-abbrev most_with : FileJob → ℕ
-most_with (filed.VerifyLong rounds) = most_report_bytes
-most_with (filed.Proof asked) = most_proof_bytes
-most_with (filed.Join rounds) = most_parts_bytes
-most_with f = most_bytes
+use Rattle.wf_program.specs.Program.{ChecksProofBy, DecidesTask, DoesAlone, DoesAsked, DoesWithFile, Ends, ListsQuestion, WritesTextOf, finished, searched, solved, sought, written}
+use Rattle.wf_program.specs.Laws.{IsServed, file_count, most_beside, most_read}
 
 -- what is answered has status 2 at most, and nothing was written at 2
 IsAnswered : Writing → Writing → Done → Type 0
@@ -154,8 +149,10 @@ module _ {F : Type 0} (folder folder' : Filing F) (same : folder' ≡ folder) (s
   text_counted (text.Cnf rounds branch) result lists = question_counted branch rounds result lists
   text_counted (text.Preset preset) result (writes, read) = after_preset result read (preset_counted preset sink sink' result writes)
 
-  wrote : (what : TextJob) (done : Result Done Refusal) (result : Result (Unit {0}) RunFault) → WritesTextOf what source source' sink sink' result → done ≡ written result → Alone done
-  wrote what done result writes is = subst Alone (sym is) (after_writing result (text_counted what result writes))
+  -- a search, with an account or without one
+  decided : (account : Bool) (workers rounds : ℕ) (form : Form) (done : Result Done Refusal) → DecidesTask account workers rounds form source source' sink sink' done → Alone done
+  decided true workers rounds form done (result, (solves, ordered), is) = subst Alone (sym is) (after_solving result (counted (IsSolved form) rounds source source' sink sink' result solves))
+  decided false workers rounds form done (result, finds, is) = subst Alone (sym is) (after_searching result (counted (IsFound form) rounds source source' sink sink' result finds))
 
   declined_as : (result : Result (Unit {0}) Refusal) → source' ≡ source → IsDeclined sink sink' result → Alone (finished result)
   unfolding Alone
@@ -178,7 +175,7 @@ proof_counted rounds None true file file' source source' sink sink' result does 
 proof_counted rounds (Some branch) true file file' source source' sink sink' result does = branch_proved_by_hints rounds branch file file' source source' sink sink' result does
 
 -- what is counted of each job with the task in a file
-did_with : (f : FileJob) → Checked (most_with f) (DoesWithFile f)
+did_with : (f : FileJob) → Checked (most_beside f) (DoesWithFile f)
 did_with (filed.Verify rounds) file file' source source' sink sink' result (answer, does, is) =
     files.without most_bytes file file' source source' sink sink' answer result is (certified rounds file file' source source' sink sink' answer does)
 did_with (filed.VerifyLong rounds) file file' source source' sink sink' result (answer, does, is) =
@@ -211,47 +208,35 @@ of_file most folder folder' source source' sink sink' (Err e) h =
 
 with_file : {F : Type 0} (f : FileJob) (comes : Opening → Type 0) (folder folder' : Filing F) (source source' : Reading) (sink sink' : Writing) (done : Result Done Refusal)
     → (result : Result (Unit {0}) RunFault) × WithFile comes (DoesWithFile f) folder folder' source source' sink sink' result × (done ≡ finished (as_file_refusal (state_of folder'.kept) result))
-    → IsDone 1 (most_with f) folder folder' source source' sink sink' done
+    → IsDone 1 (most_beside f) folder folder' source source' sink sink' done
 with_file f comes folder folder' source source' sink sink' done (result, does, is) =
-    subst (IsDone 1 (most_with f) folder folder' source source' sink sink') (sym is)
-    (of_file (most_with f) folder folder' source source' sink sink' result
-    (files.counted (most_with f) (DoesWithFile f) comes folder folder' source source' sink sink' result (did_with f) does))
+    subst (IsDone 1 (most_beside f) folder folder' source source' sink sink') (sym is)
+    (of_file (most_beside f) folder folder' source source' sink sink' result
+    (files.counted (most_beside f) (DoesWithFile f) comes folder folder' source source' sink sink' result (did_with f) does))
 
 -- what holds after each job
 Holds : {F : Type 0} → Result Job WordsFault → Result Done Refusal → Filing F → Filing F → Reading → Reading → Writing → Writing → Type 0
 Holds asked done folder folder' source source' sink sink' = IsDone (file_count asked) (most_read asked) folder folder' source source' sink sink' done
 
+-- what holds after a job without a file
+did_alone : {F : Type 0} (what : LoneJob) (folder folder' : Filing F) (same : folder' ≡ folder) (source source' : Reading) (sink sink' : Writing) (done : Result Done Refusal)
+    → DoesAlone what source source' sink sink' done → Alone folder folder' same source source' sink sink' done
+did_alone (lone.Solve asked) folder folder' same source source' sink sink' done does = decided folder folder' same source source' sink sink' asked.account asked.workers asked.rounds asked.form done does
+did_alone (lone.SolveBranch rounds branch form progress) folder folder' same source source' sink sink' done (result, solves, is) =
+    subst (Alone folder folder' same source source' sink sink') (sym is)
+    (after_searching folder folder' same source source' sink sink' result (branch_counted (IsSolvedIn form) rounds branch source source' sink sink' result solves))
+did_alone (lone.Obstruction modulus covers progress) folder folder' same source source' sink sink' done (result, finds, is) =
+    subst (Alone folder folder' same source source' sink sink') (sym is)
+    (after_seeking folder folder' same source source' sink sink' result (seeking_counted (record { modulus = modulus; covers = covers }) source source' sink sink' result finds))
+did_alone (lone.Text what) folder folder' same source source' sink sink' done (result, writes, is) =
+    subst (Alone folder folder' same source source' sink sink') (sym is)
+    (after_writing folder folder' same source source' sink sink' result (text_counted folder folder' same source source' sink sink' what result writes))
+
 did : {F : Type 0} (opens : Opens) (folder folder' : Filing F) (source source' : Reading) (sink sink' : Writing) (asked : Result Job WordsFault) (done : Result Done Refusal)
     → DoesAsked opens asked folder folder' source source' sink sink' done → Holds asked done folder folder' source source' sink sink'
 unfolding Holds Alone
-did opens folder folder' source source' sink sink' (Ok (job.Solve rounds workers form true progress)) done (same, (result, solves, ordered, is)) =
-    subst (Alone folder folder' same source source' sink sink') (sym is)
-    (after_solving folder folder' same source source' sink sink' result (counted (IsSolved form) rounds source source' sink sink' result solves))
-did opens folder folder' source source' sink sink' (Ok (job.Solve rounds workers form false progress)) done (same, (result, finds, is)) =
-    subst (Alone folder folder' same source source' sink sink') (sym is)
-    (after_searching folder folder' same source source' sink sink' result (counted (IsFound form) rounds source source' sink sink' result finds))
-did opens folder folder' source source' sink sink' (Ok (job.SolveBranch rounds branch form progress)) done (same, (result, solves, is)) =
-    subst (Alone folder folder' same source source' sink sink') (sym is)
-    (after_searching folder folder' same source source' sink sink' result (branch_counted (IsSolvedIn form) rounds branch source source' sink sink' result solves))
-did opens folder folder' source source' sink sink' (Ok (job.Obstruction modulus covers progress)) done (same, (result, finds, is)) =
-    subst (Alone folder folder' same source source' sink sink') (sym is)
-    (after_seeking folder folder' same source source' sink sink' result (seeking_counted (record { modulus = modulus; covers = covers }) source source' sink sink' result finds))
-did opens folder folder' source source' sink sink' (Ok (job.Views rounds)) done (same, (result, writes, is)) = wrote folder folder' same source source' sink sink' (text.Views rounds) done result writes is
-did opens folder folder' source source' sink sink' (Ok (job.Points rounds)) done (same, (result, writes, is)) = wrote folder folder' same source source' sink sink' (text.Points rounds) done result writes is
-did opens folder folder' source source' sink sink' (Ok (job.Branches rounds)) done (same, (result, writes, is)) = wrote folder folder' same source source' sink sink' (text.Branches rounds) done result writes is
-did opens folder folder' source source' sink sink' (Ok (job.Cnf rounds branch)) done (same, (result, writes, is)) = wrote folder folder' same source source' sink sink' (text.Cnf rounds branch) done result writes is
-did opens folder folder' source source' sink sink' (Ok (job.Executions rounds)) done (same, (result, writes, is)) = wrote folder folder' same source source' sink sink' (text.Executions rounds) done result writes is
-did opens folder folder' source source' sink sink' (Ok (job.Preset preset)) done (same, (result, writes, is)) = wrote folder folder' same source source' sink sink' (text.Preset preset) done result writes is
-did opens folder folder' source source' sink sink' (Ok (job.Verify task rounds)) done does = with_file (filed.Verify rounds) (opens (string_bytes task)) folder folder' source source' sink sink' done does
-did opens folder folder' source source' sink sink' (Ok (job.VerifyLong task rounds)) done does = with_file (filed.VerifyLong rounds) (opens (string_bytes task)) folder folder' source source' sink sink' done does
-did opens folder folder' source source' sink sink' (Ok (job.VerifyBranch task rounds branch)) done does = with_file (filed.VerifyBranch rounds branch) (opens (string_bytes task)) folder folder' source source' sink sink' done does
-did opens folder folder' source source' sink sink' (Ok (job.Join task rounds)) done does = with_file (filed.Join rounds) (opens (string_bytes task)) folder folder' source source' sink sink' done does
-did opens folder folder' source source' sink sink' (Ok (job.Model task rounds)) done does = with_file (filed.Model rounds) (opens (string_bytes task)) folder folder' source source' sink sink' done does
-did opens folder folder' source source' sink sink' (Ok (job.Proof task rounds branch hints progress)) done does = with_file (filed.Proof (record { rounds = rounds; branch = branch; hints = hints; progress = progress })) (opens (string_bytes task)) folder folder' source source' sink sink' done does
-did opens folder folder' source source' sink sink' (Ok (job.Decisions task)) done does = with_file filed.Decisions (opens (string_bytes task)) folder folder' source source' sink sink' done does
-did opens folder folder' source source' sink sink' (Ok (job.Trim task)) done does = with_file filed.Trim (opens (string_bytes task)) folder folder' source source' sink sink' done does
-did opens folder folder' source source' sink sink' (Ok (job.Explain task)) done does = with_file filed.Explain (opens (string_bytes task)) folder folder' source source' sink sink' done does
-did opens folder folder' source source' sink sink' (Ok (job.Lift task rounds)) done does = with_file (filed.Lift rounds) (opens (string_bytes task)) folder folder' source source' sink sink' done does
+did opens folder folder' source source' sink sink' (Ok (job.WithFile task what)) done does = with_file what (opens (string_bytes task)) folder folder' source source' sink sink' done does
+did opens folder folder' source source' sink sink' (Ok (job.Alone what)) done (same, does) = did_alone what folder folder' same source source' sink sink' done does
 did opens folder folder' source source' sink sink' (Err e) done (same, read, (result, (program, named, declines), is)) =
     subst (Alone folder folder' same source source' sink sink') (sym is)
     (declined_as folder folder' same source source' sink sink' result read (service.declined sink sink' program e result declines))

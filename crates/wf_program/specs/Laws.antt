@@ -8,8 +8,10 @@ use Rattle.wf_branches.specs.Joining.{most_parts_bytes}
 use Rattle.wf_words.specs.Asked.{GivenWords, IsAsked}
 use Rattle.wf_words.specs.declared.fault.WordsFault.{WordsFault}
 use Rattle.wf_args.specs.Asked.{job_asked}
-use Rattle.wf_args.specs.declared.Job.{Job}
-use Rattle.wf_args.specs.declared.Job.TheVariants.{Verify, VerifyLong, VerifyBranch, Decisions, Join, Model, Proof, Trim, Explain, Lift}
+use Rattle.wf_args.specs.declared.asked.Job.{Job}
+use Rattle.wf_args.specs.declared.asked.Job.TheVariants as job
+use Rattle.wf_args.specs.declared.asked.FileJob.{FileJob}
+use Rattle.wf_args.specs.declared.asked.FileJob.TheVariants as filed
 use Rattle.wf_service.specs.Files.{Filing, Opens}
 use Rattle.wf_service.specs.FileLaws.{IsFiled}
 use Rattle.wf_service.specs.Laws.{calls_by_status}
@@ -18,23 +20,19 @@ use Rattle.wf_program.specs.Program.{Serves, TellsNote}
 
 -- how many files a job opens
 abbrev pub file_count : Result Job WordsFault → ℕ
-file_count (Ok (Verify task rounds)) = 1
-file_count (Ok (VerifyLong task rounds)) = 1
-file_count (Ok (VerifyBranch task rounds branch)) = 1
-file_count (Ok (Decisions task)) = 1
-file_count (Ok (Join task rounds)) = 1
-file_count (Ok (Model task rounds)) = 1
-file_count (Ok (Proof task rounds branch hints progress)) = 1
-file_count (Ok (Trim task)) = 1
-file_count (Ok (Explain task)) = 1
-file_count (Ok (Lift task rounds)) = 1
+file_count (Ok (job.WithFile task what)) = 1
 file_count asked = 0
 
--- how many bytes the text may have that a job reads of the source
+-- how many bytes the text may have that is read of the source, beside a task in a file
+abbrev pub most_beside : FileJob → ℕ
+most_beside (filed.VerifyLong rounds) = most_report_bytes
+most_beside (filed.Proof asked) = most_proof_bytes
+most_beside (filed.Join rounds) = most_parts_bytes
+most_beside what = most_bytes
+
+-- and whatever is asked for
 abbrev pub most_read : Result Job WordsFault → ℕ
-most_read (Ok (VerifyLong task rounds)) = most_report_bytes
-most_read (Ok (Proof task rounds branch hints progress)) = most_proof_bytes
-most_read (Ok (Join task rounds)) = most_parts_bytes
+most_read (Ok (job.WithFile task what)) = most_beside what
 most_read asked = most_bytes
 
 -- The status is at most 4, and 4 exactly where one call of the source, the sink, the folder or the

@@ -1,13 +1,13 @@
 -- What a run of the program reads, writes, tells and answers.
-use Rattle.std.specs.Prelude.{◌≡◌, ◌<◌, ◌≤◌, ℕ, Bool, true, false, List, [], ◌∷◌, ◌++◌, Option, Some, None, Result, Ok, Err, codes, option_map, string_bytes}
+use Rattle.std.specs.Prelude.{◌≡◌, ℕ, Bool, true, false, List, [], ◌∷◌, ◌++◌, Option, Some, None, Result, Ok, Err, codes, string_bytes}
 use Rattle.wf_core.specs.declared.Account as core
-use Rattle.wf_model.specs.Limits.{most_workers}
+use Rattle.wf_lines.specs.declared.form.Form.{Form}
+use Rattle.wf_preset.specs.declared.named.Preset.{Preset}
 use Rattle.wf_model.specs.ViewsText.{views_text}
 use Rattle.wf_formula.specs.Dimacs.{question_text}
 use Rattle.wf_io.specs.Seen.{Reading, Writing}
 use Rattle.wf_io.specs.Ends.{CanCount, CanWrite}
 use Rattle.wf_io.specs.Texts.{Told}
-use Rattle.wf_engine.specs.declared.search.WantedReport.{WantedReport}
 use Rattle.wf_engine.specs.declared.outcome.Outcome.{Outcome}
 use Rattle.wf_engine.specs.declared.outcome.Outcome.TheVariants.{Map, Nothing}
 use Rattle.wf_run.specs.declared.fault.RunFault.{RunFault}
@@ -38,8 +38,15 @@ use Rattle.wf_obstruction_engine.specs.declared.finding.Finding.TheVariants.{Fou
 use Rattle.wf_words.specs.Asked.{GivenWords, IsAsked}
 use Rattle.wf_words.specs.declared.fault.WordsFault.{WordsFault}
 use Rattle.wf_args.specs.Asked.{job_asked}
-use Rattle.wf_args.specs.declared.Job.{Job}
-use Rattle.wf_args.specs.declared.Job.TheVariants.{Solve, SolveBranch, Verify, VerifyLong, VerifyBranch, Views, Points, Branches, Join, Cnf, Model, Proof, Decisions, Trim, Explain, Lift, Executions, Obstruction, Preset}
+use Rattle.wf_args.specs.declared.asked.Job.{Job}
+use Rattle.wf_args.specs.declared.asked.Job.TheVariants as job
+use Rattle.wf_args.specs.declared.asked.FileJob.{FileJob}
+use Rattle.wf_args.specs.declared.asked.FileJob.TheVariants as filed
+use Rattle.wf_args.specs.declared.asked.ProofJob.{ProofJob}
+use Rattle.wf_args.specs.declared.asked.LoneJob.{LoneJob}
+use Rattle.wf_args.specs.declared.asked.LoneJob.TheVariants as lone
+use Rattle.wf_args.specs.declared.asked.TextJob.{TextJob}
+use Rattle.wf_args.specs.declared.asked.TextJob.TheVariants as text
 use Rattle.wf_service.specs.Files.{Opening, Opens, Filing, CanAsk, state_of}
 use Rattle.wf_service.specs.FileRuns.{Did, DoesBoth, WithFile}
 use Rattle.wf_service.specs.Refusals.{Refuses, as_file_refusal, refusal_line}
@@ -51,13 +58,6 @@ use Rattle.wf_program.specs.declared.done.Done.{Done}
 use Rattle.wf_program.specs.declared.done.Note.{Note}
 use Rattle.wf_program.specs.declared.done.Note.TheVariants as note
 use Rattle.wf_program.specs.declared.done.Note.TheVariants.{Account, NoObstruction}
-use Rattle.wf_program.specs.declared.filed.FileJob.{FileJob}
-use Rattle.wf_program.specs.declared.filed.FileJob.TheVariants as filed
-use Rattle.wf_program.specs.declared.filed.ProofJob.{ProofJob}
-use Rattle.wf_program.specs.declared.lone.LoneJob.{LoneJob}
-use Rattle.wf_program.specs.declared.lone.LoneJob.TheVariants as lone
-use Rattle.wf_program.specs.declared.texts.TextJob.{TextJob}
-use Rattle.wf_program.specs.declared.texts.TextJob.TheVariants as text
 
 -- ---- notes
 
@@ -103,100 +103,37 @@ abbrev pub finished : Result (Unit {0}) Refusal → Result Done Refusal
 finished (Ok done) = Ok (record { status = 0; note = None })
 finished (Err e) = Err e
 
--- a proof about a task was checked: by its hints or without, about the whole or about one branch
+-- what is read of a task and written, and what is answered
+abbrev pub DoesOne : Type 0 → Type 1
+DoesOne X = Reading → Reading → Writing → Writing → Result X RunFault → Type 0
+
+-- this was done, and what is answered says how it ended
+abbrev pub Ending : {X : Type 0} → (Result X RunFault → Result Done Refusal) → DoesOne X → Reading → Reading → Writing → Writing → Result Done Refusal → Type 0
+Ending {X = X} end does source source' sink sink' done = (result : Result X RunFault) × does source source' sink sink' result × (done ≡ end result)
+
+-- ---- what is done with the task in a file
+
+-- a proof was checked: by its hints or without, about the whole task or about one branch
 abbrev pub ChecksProofBy : ℕ → Option ℕ → Bool → DoesBoth (Unit {0})
-ChecksProofBy rounds None false task task' source source' sink sink' result = Refutes rounds task task' source source' sink sink' result
-ChecksProofBy rounds (Some branch) false task task' source source' sink sink' result = RefutesBranch rounds branch task task' source source' sink sink' result
-ChecksProofBy rounds None true task task' source source' sink sink' result = RefutesByHints rounds task task' source source' sink sink' result
-ChecksProofBy rounds (Some branch) true task task' source source' sink sink' result =
-    RefutesBranchByHints rounds branch task task' source source' sink sink' result
+ChecksProofBy rounds None false = Refutes rounds
+ChecksProofBy rounds (Some branch) false = RefutesBranch rounds branch
+ChecksProofBy rounds None true = RefutesByHints rounds
+ChecksProofBy rounds (Some branch) true = RefutesBranchByHints rounds branch
 
 abbrev pub ChecksProof : ProofJob → DoesBoth (Unit {0})
-ChecksProof asked task task' source source' sink sink' result = ChecksProofBy asked.rounds asked.branch asked.hints task task' source source' sink sink' result
+ChecksProof asked = ChecksProofBy asked.rounds asked.branch asked.hints
 
--- what a job does with the task in its file
 abbrev pub DoesWithFile : FileJob → DoesBoth (Unit {0})
-DoesWithFile (filed.Verify rounds) task task' source source' sink sink' result = Did (VerifiesCertificate rounds) task task' source source' sink sink' result
-DoesWithFile (filed.VerifyLong rounds) task task' source source' sink sink' result = Did (VerifiesLong rounds) task task' source source' sink sink' result
-DoesWithFile (filed.VerifyBranch rounds branch) task task' source source' sink sink' result =
-    VerifiesBranch rounds branch task task' source source' sink sink' result
-DoesWithFile (filed.Join rounds) task task' source source' sink sink' result = Joins rounds task task' source source' sink sink' result
-DoesWithFile (filed.Model rounds) task task' source source' sink sink' result = Models rounds task task' source source' sink sink' result
-DoesWithFile (filed.Proof asked) task task' source source' sink sink' result = ChecksProof asked task task' source source' sink sink' result
-DoesWithFile filed.Decisions task task' source source' sink sink' result = Decides task task' source source' sink sink' result
-DoesWithFile filed.Trim task task' source source' sink sink' result = Trims task task' source source' sink sink' result
-DoesWithFile filed.Explain task task' source source' sink sink' result = Explains task task' source source' sink sink' result
-DoesWithFile (filed.Lift rounds) task task' source source' sink sink' result = Lifts rounds task task' source source' sink sink' result
-
--- the question of the source's task after so many rounds was written, or that
--- of one of its branches
-abbrev pub ListsQuestion : Option ℕ → ℕ → Reading → Reading → Writing → Writing → Result (Unit {0}) RunFault → Type 0
-ListsQuestion None rounds source source' sink sink' result = Lists question_text rounds source source' sink sink' result
-ListsQuestion (Some branch) rounds source source' sink sink' result = ListsBranch branch_text rounds branch source source' sink sink' result
-
--- the source's task was decided for the report that is wanted, with an account or without one
-abbrev pub DecidesTask : Bool → WantedReport → ℕ → Reading → Reading → Writing → Writing → Result Done Refusal → Type 0
-DecidesTask true wanted workers source source' sink sink' done =
-    (result : Result (Outcome × core.Account) RunFault) × Solves wanted.rounds wanted.form source source' sink sink' result
-    × (workers ≡ 1 → SearchesInOrder result) × (done ≡ solved result)
-DecidesTask false wanted workers source source' sink sink' done =
-    (result : Result Outcome RunFault) × Finds wanted.rounds wanted.form source source' sink sink' result × (done ≡ searched result)
-
--- the text that a job writes
-abbrev pub WritesTextOf : TextJob → Reading → Reading → Writing → Writing → Result (Unit {0}) RunFault → Type 0
-WritesTextOf (text.Views rounds) source source' sink sink' result = Lists views_text rounds source source' sink sink' result
-WritesTextOf (text.Points rounds) source source' sink sink' result = Lists undecided_points rounds source source' sink sink' result
-WritesTextOf (text.Branches rounds) source source' sink sink' result = Lists branches_text rounds source source' sink sink' result
-WritesTextOf (text.Executions rounds) source source' sink sink' result = Lists executions_text rounds source source' sink sink' result
-WritesTextOf (text.Cnf rounds branch) source source' sink sink' result = ListsQuestion branch rounds source source' sink sink' result
-WritesTextOf (text.Preset preset) source source' sink sink' result = WritesPreset preset sink sink' result × (source' ≡ source)
-
--- what a job does without a file
-abbrev pub DoesAlone : LoneJob → Reading → Reading → Writing → Writing → Result Done Refusal → Type 0
-DoesAlone (lone.Solve wanted workers account progress) source source' sink sink' done = DecidesTask account wanted workers source source' sink sink' done
-DoesAlone (lone.SolveBranch wanted branch progress) source source' sink sink' done =
-    (result : Result Outcome RunFault) × SolvesBranch wanted.rounds branch wanted.form source source' sink sink' result × (done ≡ searched result)
-DoesAlone (lone.Obstruction wanted progress) source source' sink sink' done =
-    (result : Result Finding RunFault) × FindsObstruction wanted source source' sink sink' result × (done ≡ sought result)
-DoesAlone (lone.Text what) source source' sink sink' done =
-    (result : Result (Unit {0}) RunFault) × WritesTextOf what source source' sink sink' result × (done ≡ written result)
-
--- one worker at least, and no more than a run may have
-abbrev pub CanBeDoneAlone : LoneJob → Type 0
-CanBeDoneAlone (lone.Solve wanted workers account progress) = (0 < workers) × (workers ≤ most_workers)
-CanBeDoneAlone job = Unit {0}
-
--- the text that a job writes; none where it does something else
-abbrev pub text_of : Job → Option TextJob
-text_of (Views rounds) = Some (text.Views rounds)
-text_of (Points rounds) = Some (text.Points rounds)
-text_of (Branches rounds) = Some (text.Branches rounds)
-text_of (Cnf rounds branch) = Some (text.Cnf rounds branch)
-text_of (Executions rounds) = Some (text.Executions rounds)
-text_of (Preset preset) = Some (text.Preset preset)
-text_of job = None
-
--- what a job does without a file; none where it has one
-abbrev pub lone_of : Job → Option LoneJob
-lone_of (Solve rounds workers form account progress) = Some (lone.Solve (record { rounds = rounds; form = form }) workers account progress)
-lone_of (SolveBranch rounds branch form progress) = Some (lone.SolveBranch (record { rounds = rounds; form = form }) branch progress)
-lone_of (Obstruction modulus covers progress) = Some (lone.Obstruction (record { modulus = modulus; covers = covers }) progress)
-lone_of job = option_map lone.Text (text_of job)
-
--- what a job does with the task in its file, and the file's path; none where it has no file
-abbrev pub filed_of : Job → Option (FileJob × List ℕ)
-filed_of (Verify task rounds) = Some (filed.Verify rounds, string_bytes task)
-filed_of (VerifyLong task rounds) = Some (filed.VerifyLong rounds, string_bytes task)
-filed_of (VerifyBranch task rounds branch) = Some (filed.VerifyBranch rounds branch, string_bytes task)
-filed_of (Join task rounds) = Some (filed.Join rounds, string_bytes task)
-filed_of (Model task rounds) = Some (filed.Model rounds, string_bytes task)
-filed_of (Proof task rounds branch hints progress) =
-    Some (filed.Proof (record { rounds = rounds; branch = branch; hints = hints; progress = progress }), string_bytes task)
-filed_of (Decisions task) = Some (filed.Decisions, string_bytes task)
-filed_of (Trim task) = Some (filed.Trim, string_bytes task)
-filed_of (Explain task) = Some (filed.Explain, string_bytes task)
-filed_of (Lift task rounds) = Some (filed.Lift rounds, string_bytes task)
-filed_of job = None
+DoesWithFile (filed.Verify rounds) = Did (VerifiesCertificate rounds)
+DoesWithFile (filed.VerifyLong rounds) = Did (VerifiesLong rounds)
+DoesWithFile (filed.VerifyBranch rounds branch) = VerifiesBranch rounds branch
+DoesWithFile (filed.Join rounds) = Joins rounds
+DoesWithFile (filed.Model rounds) = Models rounds
+DoesWithFile (filed.Proof asked) = ChecksProof asked
+DoesWithFile filed.Decisions = Decides
+DoesWithFile filed.Trim = Trims
+DoesWithFile filed.Explain = Explains
+DoesWithFile (filed.Lift rounds) = Lifts rounds
 
 -- what a job does with the task in a file was done
 abbrev pub DoesFile : {F : Type 0} → (Opening → Type 0) → FileJob → Filing F → Filing F → Reading → Reading → Writing → Writing → Result Done Refusal → Type 0
@@ -204,18 +141,49 @@ DoesFile comes what folder folder' source source' sink sink' done =
     (result : Result (Unit {0}) RunFault) × WithFile comes (DoesWithFile what) folder folder' source source' sink sink' result
     × (done ≡ finished (as_file_refusal (state_of folder'.kept) result))
 
--- it was done with the task in the file, which is among those that may be opened under its path; or
--- without one, and no file was asked for
-abbrev pub DoesBy : {F : Type 0} → Opens → Option (FileJob × List ℕ) → Option LoneJob → Filing F → Filing F → Reading → Reading → Writing → Writing → Result Done Refusal → Type 0
-DoesBy opens (Some (what, path)) alone folder folder' source source' sink sink' done =
-    DoesFile (opens path) what folder folder' source source' sink sink' done
-DoesBy opens None (Some what) folder folder' source source' sink sink' done =
-    (folder' ≡ folder) × DoesAlone what source source' sink sink' done
-DoesBy opens None None folder folder' source source' sink sink' done = ⊥
+-- ---- what is done without a file
 
--- what a job asks for was done
+-- the question of the source's task after so many rounds was written, or that
+-- of one of its branches
+abbrev pub ListsQuestion : Option ℕ → ℕ → DoesOne (Unit {0})
+ListsQuestion None rounds = Lists question_text rounds
+ListsQuestion (Some branch) rounds = ListsBranch branch_text rounds branch
+
+-- the text of a preset was written, and nothing was read
+abbrev pub WritesPresetAlone : Preset → DoesOne (Unit {0})
+WritesPresetAlone preset source source' sink sink' result = WritesPreset preset sink sink' result × (source' ≡ source)
+
+abbrev pub WritesTextOf : TextJob → DoesOne (Unit {0})
+WritesTextOf (text.Views rounds) = Lists views_text rounds
+WritesTextOf (text.Points rounds) = Lists undecided_points rounds
+WritesTextOf (text.Branches rounds) = Lists branches_text rounds
+WritesTextOf (text.Cnf rounds branch) = ListsQuestion branch rounds
+WritesTextOf (text.Executions rounds) = Lists executions_text rounds
+WritesTextOf (text.Preset preset) = WritesPresetAlone preset
+
+-- by one worker the branches are searched in their order
+abbrev pub SolvesBy : ℕ → ℕ → Form → DoesOne (Outcome × core.Account)
+SolvesBy workers rounds form source source' sink sink' result = Solves rounds form source source' sink sink' result × (workers ≡ 1 → SearchesInOrder result)
+
+-- the source's task was decided, with an account or without one
+abbrev pub DecidesTask : Bool → ℕ → ℕ → Form → Reading → Reading → Writing → Writing → Result Done Refusal → Type 0
+DecidesTask true workers rounds form = Ending solved (SolvesBy workers rounds form)
+DecidesTask false workers rounds form = Ending searched (Finds rounds form)
+
+abbrev pub DoesAlone : LoneJob → Reading → Reading → Writing → Writing → Result Done Refusal → Type 0
+DoesAlone (lone.Solve asked) = DecidesTask asked.account asked.workers asked.rounds asked.form
+DoesAlone (lone.SolveBranch rounds branch form progress) = Ending searched (SolvesBranch rounds branch form)
+DoesAlone (lone.Obstruction modulus covers progress) = Ending sought (FindsObstruction (record { modulus = modulus; covers = covers }))
+DoesAlone (lone.Text what) = Ending written (WritesTextOf what)
+
+-- ---- what words ask for
+
+-- what a job asks for was done: with the task in the file, which is among those that may be opened
+-- under its path; or without a file, and none was asked for
 abbrev pub Does : {F : Type 0} → Opens → Job → Filing F → Filing F → Reading → Reading → Writing → Writing → Result Done Refusal → Type 0
-Does opens job folder folder' source source' sink sink' done = DoesBy opens (filed_of job) (lone_of job) folder folder' source source' sink sink' done
+Does opens (job.WithFile task what) folder folder' source source' sink sink' done =
+    DoesFile (opens (string_bytes task)) what folder folder' source source' sink sink' done
+Does opens (job.Alone what) folder folder' source source' sink sink' done = (folder' ≡ folder) × DoesAlone what source source' sink sink' done
 
 -- there is no job in the words: a help or the version was shown, or they are refused
 abbrev pub DeclinesWords : WordsFault → Writing → Writing → Result Done Refusal → Type 0
@@ -224,7 +192,7 @@ DeclinesWords e sink sink' done =
 
 -- the job was done; or there is none, and nothing was read, and no file was asked for
 abbrev pub DoesAsked : {F : Type 0} → Opens → Result Job WordsFault → Filing F → Filing F → Reading → Reading → Writing → Writing → Result Done Refusal → Type 0
-DoesAsked opens (Ok job) folder folder' source source' sink sink' done = Does opens job folder folder' source source' sink sink' done
+DoesAsked opens (Ok asked) folder folder' source source' sink sink' done = Does opens asked folder folder' source source' sink sink' done
 DoesAsked opens (Err e) folder folder' source source' sink sink' done = (folder' ≡ folder) × (source' ≡ source) × DeclinesWords e sink sink' done
 
 -- ---- a whole run

@@ -1,19 +1,18 @@
 //! What a job does without a file.
 
-ghost use Rattle.std.specs.Prelude.{◌≡◌, ◌<◌, ◌≤◌, IfSome, option_map};
+ghost use Rattle.std.specs.Prelude.{◌≡◌, ◌<◌, ◌≤◌};
 ghost use Rattle.wf_model.specs.Limits.{most_workers};
-ghost use Rattle.wf_args.specs.Job.{CanBeDone};
+ghost use Rattle.wf_args.specs.Job.{CanBeDoneAlone};
 ghost use Rattle.wf_io.specs.Ends.{CanCount};
 ghost use Rattle.wf_obstruction_engine.specs.Finding.{FindsObstruction};
-ghost use Rattle.wf_program.specs.Program.{CanBeDoneAlone, DecidesTask, DoesAlone, lone_of};
-ghost use Rattle.wf_program.specs.declared.lone.LoneJob.TheVariants as lone;
+ghost use Rattle.wf_program.specs.Program.{DecidesTask, DoesAlone};
 
 use crate::done::{Done, after_searching, after_seeking, after_solving, after_writing};
-use crate::texts::TextJob;
+use crate::texts::write_text;
 use std::alloc::Global;
 use std::io::{Read, Write};
 use std::thread::Threads;
-use wf_args::Job;
+use wf_args::LoneJob;
 use wf_branches::{BranchSearch, run_solve_branch};
 use wf_engine::{Form, Search, WantedReport, run_counted_search, run_search};
 use wf_finder::{Listener, Silent};
@@ -32,126 +31,47 @@ pub(crate) struct Resources<'a, T, G> {
     pub(crate) gate: &'a G,
 }
 
-/// What a job does without a file.
-#[derive(Clone, Copy)]
-pub(crate) enum LoneJob {
-    /// Search the whole question of the source's task.
-    Solve {
-        wanted: WantedReport,
-        workers: u32,
-        account: bool,
-        progress: bool,
-    },
-    /// Search one branch of the question.
-    SolveBranch {
-        wanted: WantedReport,
-        branch: u32,
-        progress: bool,
-    },
-    /// Look for an obstruction.
-    Obstruction {
-        wanted: WantedObstruction,
-        progress: bool,
-    },
-    /// Write a text.
-    Text(TextJob),
-}
-
-impl LoneJob {
-    /// What a job does without a file; none if it has one.
-    pub(crate) fn of(job: &Job) -> Option<LoneJob>
-        ensures is { result ≡ lone_of job.now }
-        ensures limits { CanBeDone job.now → IfSome result CanBeDoneAlone }
-    {
-        match job {
-            Job::Solve {
-                rounds,
-                workers,
-                form,
-                account,
-                progress,
-            } => Some(LoneJob::Solve {
-                wanted: wanted(*rounds, *form),
-                workers: *workers,
-                account: *account,
-                progress: *progress,
-            }),
-            Job::SolveBranch {
-                rounds,
-                branch,
-                form,
-                progress,
-            } => Some(LoneJob::SolveBranch {
-                wanted: wanted(*rounds, *form),
-                branch: *branch,
-                progress: *progress,
-            }),
-            Job::Obstruction {
-                modulus,
-                covers,
-                progress,
-            } => Some(LoneJob::Obstruction {
-                wanted: WantedObstruction {
-                    modulus: *modulus,
-                    covers: *covers,
-                },
-                progress: *progress,
-            }),
-            _ => text_alone(TextJob::of(job)),
-        }
-    }
-
-    /// Does it. If progress is asked for, the gate is told of a search.
-    pub(crate) fn run<T: Threads + Sync, G: Gate + Listener, R: Read, W: Write>(
-        self,
-        resources: &Resources<'_, T, G>,
+impl<T: Threads + Sync, G: Gate + Listener> Resources<'_, T, G> {
+    /// Does what is done without a file. If progress is asked for, the gate is told of a search.
+    pub(crate) fn run<R: Read, W: Write>(
+        &self,
+        job: LoneJob,
         source: &mut Source<R>,
         sink: &mut Sink<W>,
     ) -> Result<Done, Refusal>
         requires ends { CanCount source.old sink.old }
-        requires limits { CanBeDoneAlone self }
-        ensures { DoesAlone self source.old source.new sink.old sink.new result }
+        requires limits { CanBeDoneAlone job }
+        ensures { DoesAlone job source.old source.new sink.old sink.new result }
     {
-        let Resources { rt, alloc, gate } = *resources;
-        match self {
-            LoneJob::Solve {
-                wanted,
-                workers,
-                account,
-                progress,
-            } => {
-                let gate = told_if(progress, gate);
+        let Resources { rt, alloc, gate } = *self;
+        match job {
+            LoneJob::Solve(asked) => {
                 let search = Search {
-                    wanted,
-                    workers,
-                    gate,
+                    wanted: wanted(asked.rounds, asked.form),
+                    workers: asked.workers,
+                    gate: told_if(asked.progress, gate),
                 };
-                decide(rt, alloc, source, sink, &search, account)
+                decide(rt, alloc, source, sink, &search, asked.account)
             }
             LoneJob::SolveBranch {
-                wanted,
+                rounds,
                 branch,
+                form,
                 progress,
             } => {
-                let search = in_branch(wanted, branch, told_if(progress, gate));
+                let search = in_branch(wanted(rounds, form), branch, told_if(progress, gate));
                 after_searching(run_solve_branch(alloc, source, sink, &search))
             }
-            LoneJob::Obstruction { wanted, progress } => {
+            LoneJob::Obstruction {
+                modulus,
+                covers,
+                progress,
+            } => {
+                let wanted = WantedObstruction { modulus, covers };
                 after_seeking(seek(alloc, source, sink, wanted, told_if(progress, gate)))
             }
-            LoneJob::Text(what) => after_writing(what.write(alloc, source, sink)),
+            LoneJob::Text(what) => after_writing(write_text(alloc, source, sink, what)),
         }
-    }
-}
-
-/// A text that a job writes, as what the job does.
-fn text_alone(text: Option<TextJob>) -> Option<LoneJob>
-    ensures is { result ≡ option_map lone.Text text }
-    ensures limits { IfSome result CanBeDoneAlone }
-{
-    match text {
-        Some(text) => Some(LoneJob::Text(text)),
-        None => None,
     }
 }
 
@@ -191,8 +111,8 @@ fn decide<T: Threads + Sync, G: Gate, R: Read, W: Write>(
 ) -> Result<Done, Refusal>
     requires ends { CanCount source.old sink.old }
     requires workers { (0 < search.now.workers) × (search.now.workers ≤ most_workers) }
-    ensures { DecidesTask account search.now.wanted search.now.workers source.old source.new
-        sink.old sink.new result }
+    ensures { DecidesTask account search.now.workers search.now.wanted.rounds
+        search.now.wanted.form source.old source.new sink.old sink.new result }
 {
     if account {
         after_solving(run_counted_search(rt, alloc, source, sink, search))

@@ -9,8 +9,8 @@ ghost use Rattle.wf_service.specs.Files.{CanAsk};
 ghost use Rattle.wf_program.specs.Program.{CanServe, DeclinesWords, Does, Ends, Serves};
 
 use crate::done::{Done, after_doing};
-use crate::filed::{FileJob, FileRun};
-use crate::lone::{LoneJob, Resources};
+use crate::filed::FileRun;
+use crate::lone::Resources;
 use std::alloc::Global;
 use std::io::{Read, Write};
 use std::thread::Threads;
@@ -102,19 +102,18 @@ fn do_job<T: Threads + Sync, F: Files, G: Gate + Listener + ProofListener, R: Re
     ensures { Does (F.opens folder.old.files) job.now folder.old folder.new source.old source.new
         sink.old sink.new result }
 {
-    if let Some((filed, path)) = FileJob::of(job) {
-        let Resources { rt, alloc, gate } = *resources;
-        let run = FileRun {
-            rt,
-            alloc,
-            job: filed,
-            listener: gate,
-        };
-        return run.with_file(folder, path, source, sink);
-    }
-    match LoneJob::of(job) {
-        Some(lone) => lone.run(resources, source, sink),
-        None => unreachable!(),
+    match job {
+        Job::WithFile { task, job } => {
+            let Resources { rt, alloc, gate } = *resources;
+            let run = FileRun {
+                rt,
+                alloc,
+                job: *job,
+                listener: gate,
+            };
+            run.with_file(folder, task, source, sink)
+        }
+        Job::Alone(job) => resources.run(*job, source, sink),
     }
 }
 

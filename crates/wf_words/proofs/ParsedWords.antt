@@ -1,10 +1,10 @@
 -- From what the parser finds to what the words ask for.
-use Rattle.std.proofs.Common.{◌≡◌, ◌≢◌, refl, sym, subst, ℕ, List, [], ◌∷◌, Bool, Option, Some, Result, Err, true, false, inl, inr, ◌&&◌}
+use Rattle.std.proofs.Common.{◌≡◌, ◌≢◌, refl, sym, subst, List, [], ◌∷◌, Bool, Option, Some, Result, Ok, Err, true, false, inl, inr, ◌&&◌}
 use Rattle.std.specs.Prelude.{string_bytes}
 use Rattle.clap.specs.Words.{App, HasKind, IsAmong, Kinds, Text, fault_of, is_simple, is_simple_and_free, kind_of}
 use Rattle.clap.specs.declared.error.Error.{Error}
 use Rattle.clap.specs.declared.error.ErrorKind.TheVariants as kind
-use Rattle.wf_words.specs.Asked.{Answers, Asked, IsFault, IsJob, IsRefusal, Path, given, judged, this_job_on}
+use Rattle.wf_words.specs.Asked.{Answers, Asked, IsFault, IsJob, IsRefusal, Path, judged, on_path, on_task}
 use Rattle.wf_words.specs.declared.fault.WordsFault.{WordsFault}
 use Rattle.wf_words.specs.declared.fault.WordsFault.TheVariants as fault
 use Rattle.wf_words.specs.declared.mistake.Mistake.{Mistake}
@@ -44,12 +44,7 @@ taken_answered kinds negative asked result taken h = subst (λ ks. Answers (judg
 
 -- ---- jobs about the task in a file
 
-pub on_file : {J : Type 0} (s : Mistake) (found : Option Text) (asks : Path → J) (path : Text) (task : Path) → Some path ≡ found → string_bytes task ≡ path
-    → IsJob (given s found (λ p. this_job_on p asks)) (asks task)
-on_file s found asks path task is bytes = subst (λ f. IsJob (given s f (λ p. this_job_on p asks)) (asks task)) is (task, bytes, refl)
-
-pub on_file_for : {J : Type 0} (s s' : Mistake) (found : Option Text) (number : Option ℕ) (asks : ℕ → Path → J) (path : Text) (n : ℕ) (task : Path) → Some path ≡ found
-    → Some n ≡ number → string_bytes task ≡ path → IsJob (given s found (λ p. given s' number (λ k. this_job_on p (asks k)))) (asks n task)
-on_file_for s s' found number asks path n task is also bytes =
-    subst (λ f. IsJob (given s f (λ p. given s' number (λ k. this_job_on p (asks k)))) (asks n task)) is
-    (subst (λ o. IsJob (given s' o (λ k. this_job_on path (asks k))) (asks n task)) also (task, bytes, refl))
+pub on_file : {X J : Type 0} (job : X → Path → J) (asked : Result X Mistake) (named : Option Text) (what : X) (path : Text) (task : Path) → Ok what ≡ asked → Some path ≡ named
+    → string_bytes task ≡ path → IsJob (on_task job asked named) (job what task)
+on_file job asked named what path task made is bytes =
+    subst (λ f. IsJob (on_task job asked f) (job what task)) is (subst (λ r. IsJob (on_path job r path) (job what task)) made (task, bytes, refl))

@@ -11,6 +11,7 @@ use Rattle.clap.specs.declared.error.ErrorKind.TheVariants as kind
 use Rattle.wf_words.specs.declared.fault.WordsFault.{WordsFault}
 use Rattle.wf_words.specs.declared.fault.WordsFault.TheVariants as fault
 use Rattle.wf_words.specs.declared.mistake.Piece.{Piece}
+use Rattle.wf_words.specs.declared.mistake.Piece.TheVariants as piece
 use Rattle.wf_words.specs.declared.mistake.Mistake.{Mistake}
 use Rattle.wf_words.specs.declared.mistake.Mistake.TheVariants as mistake
 
@@ -26,14 +27,19 @@ pub data Asked (J : Type 0) : Type 0 where
   no_job : Mistake → Asked J
   refused : Kinds → Bool → Asked J
 
--- what is asked with something that is to be given; where it is not, that is the mistake
-abbrev pub given : {X J : Type 0} → Mistake → Option X → (X → Asked J) → Asked J
-given mistake (Some x) asks = asks x
-given mistake None asks = no_job mistake
-
--- with an option that may not be left out
+-- what is asked with an option that may not be left out; where it is not given, that is the mistake
 abbrev pub needed : {X J : Type 0} → Piece → Option X → (X → Asked J) → Asked J
-needed what = given (mistake.Missing what)
+needed what (Some x) asks = asks x
+needed what None asks = no_job (mistake.Missing what)
+
+-- something is asked about the task in the file of this path, or there is a mistake
+abbrev pub on_path : {X J : Type 0} → (X → Path → J) → Result X Mistake → Text → Asked J
+on_path job (Ok what) path = this_job_on path (job what)
+on_path job (Err s) path = no_job s
+
+-- about the task in the file that is named, if one is
+abbrev pub on_task : {X J : Type 0} → (X → Path → J) → Result X Mistake → Option Text → Asked J
+on_task job asked named = needed piece.Task named (on_path job asked)
 
 -- ---- the words
 

@@ -1,8 +1,11 @@
 use Rattle.clap.specs.Words.{found_of, rows_of}
-use Rattle.wf_checker.proofs.CheckWords.{check_made}
+use Rattle.wf_words.specs.Given.{task_of}
+use Rattle.wf_words.proofs.ParsedWords.{on_file}
+use Rattle.wf_checker.specs.Asked.{check_in}
 use Rattle.wf_checker.proofs.job.job_in.Goals as goal
 
 pub returns-in_ok-from_str-in-Ok : goal.returns-in_ok-from_str-in-Ok
 returns-in_ok-from_str-in-Ok c =
+    let rows = rows_of (found_of c.args.found.now) in
     let made = c.in_ok-from_str-in-Ok in
-    check_made (rows_of (found_of c.args.found.now)) _ c.in-Ok.check made.field-0 c.in-Some.ensures c.in-Ok.ensures made.ensures.ok
+    on_file (λ check task. record { task = task; check = check }) (check_in rows) (task_of rows) c.in-Ok.check _ made.field-0 c.in-Ok.ensures c.in-Some.ensures made.ensures.ok
