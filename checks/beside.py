@@ -8,6 +8,10 @@ import common
 COMMANDS = {"verify": [], "proof": ["--proof"]}
 
 
+# how a refusal begins, which names the program
+NAMES = b"wfcheck: ", b"wfverify: "
+
+
 class Otherwise(Exception):
     """What wfverify does otherwise than wfcheck, in words."""
 
@@ -25,6 +29,12 @@ def words_of(words):
     return others if "--lrat" in others else [*COMMANDS[command], *others]
 
 
+def told_by_wfverify(told):
+    """What wfverify tells where wfcheck tells this: a refusal begins with the name of the program, and all else is the same."""
+    own, other = NAMES
+    return other + told.removeprefix(own) if told.startswith(own) else told
+
+
 def compare(words, given, ran, **how):
     """Has wfverify do what a run of wfcheck did, if that is its to do, and compares all that both write, tell and answer."""
     own, program = words_of(words), common.program().with_name("wfverify")
@@ -32,6 +42,6 @@ def compare(words, given, ran, **how):
         return
     Shown.many += 1
     other = subprocess.run([program, *own], input=given, capture_output=True, **how)
-    if (other.returncode, other.stdout, other.stderr) != (ran.returncode, ran.stdout, ran.stderr):
+    if (other.returncode, other.stdout, other.stderr) != (ran.returncode, ran.stdout, told_by_wfverify(ran.stderr)):
         raise Otherwise(f"wfverify: status {other.returncode}, {other.stdout[:80]}, {other.stderr[:80]}; "
                         f"wfcheck: status {ran.returncode}, {ran.stdout[:80]}, {ran.stderr[:80]}")

@@ -46,7 +46,7 @@ DoesCheck opens (Err e) folder folder' source source' sink sink' done =
 -- the exit status; a refusal is told, and nothing else
 abbrev pub EndsCheck : Writing → Writing → Result (Unit {0}) Refusal → ℕ → Type 0
 EndsCheck errors errors' (Ok done) status = (status ≡ 0) × (errors' ≡ errors)
-EndsCheck errors errors' (Err e) status = Refuses errors errors' e status
+EndsCheck errors errors' (Err e) status = Refuses (codes "wfverify") errors errors' e status
 
 -- the words were judged, what they ask for was done, and a refusal was told
 abbrev pub ServesCheck : {F : Type 0} → Opens → GivenWords → Filing F → Filing F → Reading → Reading → Writing → Writing → Writing → Writing → ℕ → Type 0

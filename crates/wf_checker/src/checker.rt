@@ -126,6 +126,6 @@ fn end<E: Write>(alloc: Global, errors: &mut Sink<E>, done: Result<(), Refusal>)
 {
     match done {
         Ok(()) => 0,
-        Err(refusal) => refuse(alloc, errors, refusal),
+        Err(refusal) => refuse(alloc, errors, WFVERIFY.name, refusal),
     }
 }

@@ -65,7 +65,7 @@ use Rattle.wf_program.specs.declared.done.Note.TheVariants.{Account, NoObstructi
 abbrev pub note_line : Note → List ℕ
 note_line (Account a) = account_line a
 note_line (NoObstruction tried) = tried_text tried ++ 10 ∷ []
-note_line (note.GaveUp at) = refusal_line (gave_up_text at)
+note_line (note.GaveUp at) = refusal_line (codes "wfcheck") (gave_up_text at)
 
 -- a note is told, or nothing
 abbrev pub TellsNote : Writing → Writing → Option Note → Type 0
@@ -200,7 +200,7 @@ DoesAsked opens (Err e) folder folder' source source' sink sink' done = (folder'
 -- the exit status; a note is told, and so is a refusal, and nothing else
 abbrev pub Ends : Writing → Writing → Result Done Refusal → ℕ → Type 0
 Ends errors errors' (Ok done) result = (result ≡ done.status) × TellsNote errors errors' done.note
-Ends errors errors' (Err e) result = Refuses errors errors' e result
+Ends errors errors' (Err e) result = Refuses (codes "wfcheck") errors errors' e result
 
 -- the words were judged, what they ask for was done, and it was told how that ended
 abbrev pub Serves : {F : Type 0} → Opens → GivenWords → Filing F → Filing F → Reading → Reading → Writing → Writing → Writing → Writing → ℕ → Type 0

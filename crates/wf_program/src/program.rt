@@ -22,6 +22,9 @@ use wf_service::{Files, Opener, Program, Refusal, decline, refuse, tell};
 use wf_verify_engine::ProofListener;
 use wf_words::WordsFault;
 
+/// What this program is called.
+const WFCHECK: &str = "wfcheck";
+
 /// Runs what the words ask for, the first of which is the program's own name, and answers the exit
 /// status. Where the words could not be had, that is the refusal.
 ///
@@ -74,7 +77,7 @@ fn program_for(words: &Result<Vec<String>, WordsFault>) -> Program
         Err(_) => usage_of(&[]),
     };
     Program {
-        name: "wfcheck",
+        name: WFCHECK,
         usage,
         negative_number: "numbers are not negative: rounds are 0 to 8, and workers 1 to 64",
     }
@@ -143,6 +146,6 @@ fn end<E: Write>(alloc: Global, errors: &mut Sink<E>, done: Result<Done, Refusal
             }
             done.status
         }
-        Err(refusal) => refuse(alloc, errors, refusal),
+        Err(refusal) => refuse(alloc, errors, WFCHECK, refusal),
     }
 }

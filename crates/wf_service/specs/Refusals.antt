@@ -24,20 +24,20 @@ refusal_status (RunWithFile e file) = fault_status e
 refusal_status (Words mistake) = 2
 refusal_status (Clap e negative program) = 2
 
--- the line that tells a refusal's number and name, with what it carries
-abbrev pub refusal_line : List ℕ → List ℕ
-refusal_line name = codes "wfcheck: " ++ (name ++ 10 ∷ [])
+-- the line in which a program tells a refusal's number and name, with what it carries
+abbrev pub refusal_line : List ℕ → List ℕ → List ℕ
+refusal_line program name = program ++ (codes ": " ++ (name ++ 10 ∷ []))
 
--- what is told of a refusal, where it is known
-abbrev pub refusal_text : Refusal → Option (List ℕ)
-refusal_text (Run e) = Some (refusal_line (fault_text e) ++ note_line (note_of e))
-refusal_text (RunWithFile e file) = Some (refusal_line (fault_text e) ++ (note_line (file_note e file) ++ note_line (note_of e)))
-refusal_text (Words mistake) = Some (refusal_line (codes "32 Words") ++ mistake_line mistake)
-refusal_text (Clap e negative program) = None
+-- what a program tells of a refusal, where it is known
+abbrev pub refusal_text : List ℕ → Refusal → Option (List ℕ)
+refusal_text program (Run e) = Some (refusal_line program (fault_text e) ++ note_line (note_of e))
+refusal_text program (RunWithFile e file) = Some (refusal_line program (fault_text e) ++ (note_line (file_note e file) ++ note_line (note_of e)))
+refusal_text program (Words mistake) = Some (refusal_line program (codes "32 Words") ++ mistake_line mistake)
+refusal_text program (Clap e negative parser) = None
 
--- a refusal is told, and this is its exit status
-abbrev pub Refuses : Writing → Writing → Refusal → ℕ → Type 0
-Refuses errors errors' e status = (status ≡ refusal_status e) × Tells errors errors' (refusal_text e)
+-- a refusal is told by the program of this name, and this is its exit status
+abbrev pub Refuses : List ℕ → Writing → Writing → Refusal → ℕ → Type 0
+Refuses program errors errors' e status = (status ≡ refusal_status e) × Tells errors errors' (refusal_text program e)
 
 -- a run that is refused is a refusal
 abbrev pub as_refusal : {X : Type 0} → Result X RunFault → Result X Refusal

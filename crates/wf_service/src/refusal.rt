@@ -22,7 +22,7 @@ pub struct Program {
     pub negative_number: &'static str,
 }
 
-/// Why a program refuses. Its text ends in a line feed.
+/// Why a program refuses.
 #[derive(Drop)]
 pub enum Refusal {
     /// A run is refused.
@@ -48,21 +48,29 @@ pub enum Refusal {
     },
 }
 
-impl fmt::Display for Refusal {
-    ghost output = { refusal_text };
+/// A refusal as the program of this name tells it. Its text ends in a line feed.
+#[derive(Drop)]
+pub(crate) struct ToldRefusal {
+    pub(crate) program: &'static str,
+    pub(crate) refusal: Refusal,
+}
+
+impl fmt::Display for ToldRefusal {
+    ghost output = { λ told. refusal_text told.program.now told.refusal };
 
     fn fmt<W: fmt::Write>(&self, f: &mut fmt::Formatter<W>) -> fmt::Result {
-        match self {
+        let name = self.program;
+        match &self.refusal {
             Refusal::Run(fault) => {
                 let note = NoteLine(note_of(fault));
-                write!(f, "wfcheck: {fault}\n{note}")
+                write!(f, "{name}: {fault}\n{note}")
             }
             Refusal::RunWithFile { fault, file } => {
                 let about = NoteLine(file_note(fault, *file));
                 let note = NoteLine(note_of(fault));
-                write!(f, "wfcheck: {fault}\n{about}{note}")
+                write!(f, "{name}: {fault}\n{about}{note}")
             }
-            Refusal::Words(mistake) => writeln!(f, "wfcheck: 32 Words\nerror: {mistake}"),
+            Refusal::Words(mistake) => writeln!(f, "{name}: 32 Words\nerror: {mistake}"),
             Refusal::Clap {
                 error,
                 negative,

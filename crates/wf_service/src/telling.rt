@@ -5,7 +5,7 @@ ghost use Rattle.wf_io.specs.Texts.{Tells};
 ghost use Rattle.wf_service.specs.Refusals.{Refuses};
 ghost use Rattle.wf_service.specs.Showing.{Declines, Shows};
 
-use crate::refusal::{Program, Refusal, as_refusal};
+use crate::refusal::{Program, Refusal, ToldRefusal, as_refusal};
 use crate::version::VersionLine;
 use clap::error::ErrorKind;
 use std::alloc::Global;
@@ -52,13 +52,19 @@ fn show<W: Write, T: Display>(alloc: Global, sink: &mut Sink<W>, text: &T) -> Re
     as_refusal(hand_out(sink, answer))
 }
 
-/// Tells a refusal, and answers its exit status. Nothing more can be done if that fails too.
-pub fn refuse<E: Write>(alloc: Global, errors: &mut Sink<E>, refusal: Refusal) -> u8
+/// Tells a refusal by the program of a name, and answers its exit status. Nothing more can be done
+/// if that fails too.
+pub fn refuse<E: Write>(
+    alloc: Global,
+    errors: &mut Sink<E>,
+    program: &'static str,
+    refusal: Refusal,
+) -> u8
     requires { CanWrite errors.old }
-    ensures { Refuses errors.old errors.new refusal result }
+    ensures { Refuses program.now errors.old errors.new refusal result }
 {
     let status = refusal.status();
-    tell(alloc, errors, refusal);
+    tell(alloc, errors, ToldRefusal { program, refusal });
     status
 }
 
