@@ -24,9 +24,9 @@ use Rattle.wf_engine.specs.declared.outcome.Outcome.{Outcome}
 use Rattle.wf_engine.specs.declared.outcome.Outcome.TheVariants.{Map, Nothing}
 use Rattle.wf_engine.specs.Texts.{IsFound, IsSolved}
 use Rattle.wf_run.specs.declared.fault.RunFault.{RunFault}
-use Rattle.wf_run.specs.Texts.{IsTextOf, undecided_points}
-use Rattle.wf_run.specs.Laws.{IsCounted, IsWritten}
-use Rattle.wf_run.proofs.Counts.{counted, preset_counted}
+use Rattle.wf_run.specs.Texts.{IsTextOf}
+use Rattle.wf_run.specs.Laws.{IsCounted}
+use Rattle.wf_run.proofs.Counts.{counted}
 use Rattle.wf_verify_engine.specs.Proofs.{most_proof_bytes}
 use Rattle.wf_verify_engine.specs.Verify.{AreDecisions}
 use Rattle.wf_verify_engine.proofs.CertificateCounts.{certified}
@@ -60,7 +60,9 @@ use Rattle.wf_service.proofs.DeclinedWords as service
 use Rattle.wf_service.proofs.DeclinedWords.{calls_of_fault, has_status, none_failed, two_or_three}
 use Rattle.wf_program.specs.declared.done.Done.{Done}
 use Rattle.wf_program.specs.Program.{ChecksProofBy, DecidesTask, DoesAlone, DoesAsked, DoesWithFile, Ends, ListsQuestion, WritesTextOf, finished, searched, solved, sought, written}
-use Rattle.wf_program.specs.Laws.{IsServed, file_count, most_beside, most_read}
+use Rattle.wf_program.proofs.PresetCounts.{preset_counted}
+use Rattle.wf_program.specs.Texts.{undecided_points}
+use Rattle.wf_program.specs.Laws.{IsServed, IsWritten, file_count, most_beside, most_read}
 
 -- what is answered has status 2 at most, and nothing was written at 2
 IsAnswered : Writing → Writing → Done → Type 0

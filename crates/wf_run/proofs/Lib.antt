@@ -1,4 +1,3 @@
-pub mod PointLists
 pub mod ToldLines
 pub mod RunsInPieces
 pub mod Counts
