@@ -69,6 +69,6 @@ complete -c wfcheck -n '__fish_seen_subcommand_from preset' -a set-agreement -d 
 complete -c wfcheck -n '__fish_seen_subcommand_from preset' -a renaming -d 'The processes decide different names (Attiya, Bar-Noy, Dolev, Peleg and Reischuk 1990)'
 complete -c wfcheck -n '__fish_seen_subcommand_from preset' -l processes -x -d 'How many processes there are, 1 to 4'
 complete -c wfcheck -n '__fish_seen_subcommand_from preset' -l k -x -d 'How many different values may be decided, at least 1'
-complete -c wfcheck -n '__fish_seen_subcommand_from preset' -l values -x -d 'How many values each process may have as input, 1 to 64, as far as the task's limits allow: with four processes at most 7; each has its own number if not given'
+complete -c wfcheck -n '__fish_seen_subcommand_from preset' -l values -x -d 'How many values each process may have as input, 1 to 64, as far as the task\'s limits allow: with four processes at most 7; each has its own number if not given'
 complete -c wfcheck -n '__fish_seen_subcommand_from preset' -l names -x -d 'How many names there are, 1 to 64'
 complete -c wfcheck -n '__fish_seen_subcommand_from preset' -l help -d 'Print help'
