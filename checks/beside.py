@@ -1,9 +1,8 @@
 """wfverify beside wfcheck: the words by which it does the same, and whether it does. A part of checks/verifier and checks/fuzz.
 
 If there is no wfverify beside the program that a script runs, nothing is compared."""
-import subprocess
-
 import common
+import running
 
 COMMANDS = {"verify": [], "proof": ["--proof"]}
 
@@ -35,13 +34,13 @@ def told_by_wfverify(told):
     return other + told.removeprefix(own) if told.startswith(own) else told
 
 
-def compare(words, given, ran, **how):
+def compare(words, given, ran, seconds):
     """Has wfverify do what a run of wfcheck did, if that is its to do, and compares all that both write, tell and answer."""
     own, program = words_of(words), common.program().with_name("wfverify")
     if own is None or not program.is_file():
         return
     Shown.many += 1
-    other = subprocess.run([program, *own], input=given, capture_output=True, **how)
+    other = running.run([program, *own], given, seconds)
     if (other.returncode, other.stdout, other.stderr) != (ran.returncode, ran.stdout, told_by_wfverify(ran.stderr)):
         raise Otherwise(f"wfverify: status {other.returncode}, {other.stdout[:80]}, {other.stderr[:80]}; "
                         f"wfcheck: status {ran.returncode}, {ran.stdout[:80]}, {ran.stderr[:80]}")

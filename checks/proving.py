@@ -4,9 +4,7 @@ Half of the proofs have hints. Most of their steps are taken: clauses that follo
 resolution asymmetric tautologies, and deletions; some have a fault. The program has to answer what oracle/rup.py or oracle/lrat.py does, with the
 very line of a refusal. No proof may be accepted of a question that has a model, whatever that oracle says: models are looked for here."""
 import json
-import pathlib
 import random
-import tempfile
 from typing import NamedTuple
 
 import finder
@@ -21,9 +19,11 @@ BYTES = [*(b"%d" % it for it in range(10)), b"-", b" ", b"\n", b"\r", b"\t", b" 
 
 
 class Proof(NamedTuple):
-    """A task's text, a number of rounds, and a proof, with hints or without."""
+    """A task's text, a number of rounds, the number of variables and the clauses of that question, and a proof, with hints or without."""
     task: bytes
     rounds: int
+    variables: int
+    clauses: list
     has_hints: bool
     text: bytes
 
@@ -37,7 +37,7 @@ def case(seed, number):
     has_hints = choose.random() < 0.5
     steps = (hinted_steps if has_hints else plain_steps)(choose, variables, clauses)
     text = b"\n".join(steps) + choose.choice([b"", b"\n", b"\n", b"\n"])
-    return Proof(task, rounds, has_hints, with_other_bytes(choose, text) if choose.random() < OTHER_BYTES else text)
+    return Proof(task, rounds, variables, clauses, has_hints, with_other_bytes(choose, text) if choose.random() < OTHER_BYTES else text)
 
 
 def with_other_bytes(choose, text):
@@ -235,20 +235,17 @@ def has_model(clauses, held=frozenset()):
     return any(has_model(left, held | {it}) for it in shortest)
 
 
-def wrong(run, proof):
-    """What is wrong with what the program says of a proof, or None; and what it says in a word."""
-    task = json.loads(proof.task)
-    variables, clauses = rup.question(task, proof.rounds)
+def wrong(run, file, proof):
+    """What is wrong with what the program says of a proof about a task, whose text is written to the file, or None; and what it says in a
+    word."""
     if proof.has_hints:
-        refusal = lrat.judge(lrat.Ledger(clauses), variables, proof.text)
+        refusal = lrat.judge(lrat.Ledger(proof.clauses), proof.variables, proof.text)
     else:
-        refusal = rup.judge(rup.Kept(clauses), variables, proof.text)
-    with tempfile.TemporaryDirectory() as folder:
-        file = pathlib.Path(folder) / "task.json"
-        file.write_bytes(proof.task)
-        ran = run(["proof", "--task", str(file), "--rounds", str(proof.rounds), *["--lrat"] * proof.has_hints], proof.text)
+        refusal = rup.judge(rup.Kept(proof.clauses), proof.variables, proof.text)
+    file.write_bytes(proof.task)
+    ran = run(["proof", "--task", str(file), "--rounds", str(proof.rounds), *["--lrat"] * proof.has_hints], proof.text)
     said = ran.stderr.split(b" ")[1:3][-1:] or [b"accepted"]
-    if ran.returncode == 0 and has_model(clauses):
+    if ran.returncode == 0 and has_model(proof.clauses):
         return "accepted, and the question has a model", "accepted"
     answer = (2, b"", refusals.told(refusal, is_proof=True).encode()) if refusal else (0, rup.accepted(proof.rounds).encode(), b"")
     fault = None if (ran.returncode, ran.stdout, ran.stderr) == answer else f"should be {answer}: {ran.returncode}, {ran.stdout[:80]}, {ran.stderr[:80]}"

@@ -69,16 +69,19 @@ def lift(task, report, rounds):
     return "\n".join([*front, "answer map", *(f"m {it}" for it in lifted(task, header["rounds"], values, rounds)), "end\n"])
 
 
-def closed(made, box):
-    """The box without the values that have no support in some execution, again and again; None where a point has none left."""
-    box, changes = [set(c) for c in box], True
-    while changes and all(box):
-        changes = False
+def closed(made, box, changed=None):
+    """The box without the values that have no support in some execution, again and again; None where a point has none left. A box that was
+    closed until these points were changed loses no value in an execution without one of them."""
+    box, changed = [set(c) for c in box], {*range(made.points)} if changed is None else changed
+    while changed and all(box):
+        before, changed = changed, set()
         for _, points, allowed in made.executions:
+            if before.isdisjoint(points) and changed.isdisjoint(points):
+                continue
             alive = [t for t in allowed if all(a in box[v] for a, v in zip(t, points))]
             for place, v in enumerate(points):
                 left = box[v] & {t[place] for t in alive}
-                changes, box[v] = changes or left != box[v], left
+                changed, box[v] = changed | {v} if left != box[v] else changed, left
     return box if all(box) else None
 
 
@@ -87,7 +90,7 @@ def children(made, box):
     point = next((v for v, c in enumerate(box) if len(c) > 1), None)
     if point is None:
         return [box]
-    parts = [closed(made, [{a} if v == point else c for v, c in enumerate(box)]) for a in sorted(box[point])]
+    parts = [closed(made, [{a} if v == point else c for v, c in enumerate(box)], {point}) for a in sorted(box[point])]
     return [it for it in parts if it]
 
 

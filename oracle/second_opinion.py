@@ -10,6 +10,7 @@ The report may be an obstruction, which obstructions.py judges. Then it says `ho
 wrong. It also gives random values to the points after 0, 1 and 2 rounds, and counts the executions as each balance says, if that
 is to count at most 20,000."""
 import argparse
+import functools
 import itertools
 import random
 import signal
@@ -34,6 +35,7 @@ def inputs_of(task):
     return sorted({f for s in task["inputs"] for f in faces(simplex_of(s))}, key=lambda s: (len(s), s))
 
 
+@functools.cache
 def words(n, first_block):
     """The ordered partitions of n participants, as block numbers with none left out, whose first block has so many, or all."""
     every = [w for w in itertools.product(range(n), repeat=n) if set(w) == set(range(max(w) + 1))]
@@ -72,12 +74,13 @@ class Complex:
         inputs = inputs_of(task)
         allowed = {simplex_of(e["in"]): {tuple(t) for t in e["out"]} for e in task["delta"]}
         self.numbers, self.executions, self.signed = {}, [], []
+        point = functools.cache(lambda view: point_of(view, True)) if task["symmetric"] else lambda view: view
         for s in inputs:
             for round_words in itertools.product(words_of(task, s), repeat=rounds):
                 views = [(p, v) for p, v in s]
                 for word in round_words:
                     views = seen_after(views, word)
-                points = [self.numbers.setdefault(point_of(v, task["symmetric"]), len(self.numbers)) for v in views]
+                points = [self.numbers.setdefault(point(v), len(self.numbers)) for v in views]
                 self.executions.append(([p for p, _ in s], points, allowed[s]))
                 self.signed.append((s, (-1) ** sum(len(s) - len(set(word)) for word in round_words)))
         self.points = len(self.numbers)
@@ -150,11 +153,11 @@ def wrong_count(task, balances):
             break
         made = Complex(task, rounds) if balances else None
         for it in balances:
-            alike, values = {it.hand.kin(simplex): simplex for simplex in it.hand.inputs}, it.hand.values()
+            alike, values, counts = {it.hand.kin(simplex): simplex for simplex in it.hand.inputs}, it.hand.values(), functools.cache(it.count)
             signed = [(s, sign, points) for (s, sign), (_, points, _) in zip(made.signed, made.executions) if alike[it.hand.kin(s)] == s]
             for _ in range(5):
                 at = [choose.choice(values) for _ in range(made.points)]
-                count = sum(sign * it.count(s, tuple(at[v] for v in points)) for s, sign, points in signed) % it.modulus
+                count = sum(sign * counts(s, tuple(map(at.__getitem__, points))) for s, sign, points in signed) % it.modulus
                 if count != it.sum:
                     return f"where the points after {rounds} rounds have the values {at}, the count is {count}, and not {it.sum}"
     return None
