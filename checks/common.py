@@ -90,6 +90,18 @@ def contains(name, word):
     return word in name
 
 
+def keeping(make):
+    """The same function, which keeps what it made last as long as it is given the very same things again."""
+    given, found = [], []
+
+    def kept(*things):
+        if not found or any(one is not other for one, other in zip(given, things)):
+            given[:], found[:] = things, [make(*things)]
+        return found[0]
+
+    return kept
+
+
 def ended(passed, failed):
     """Says the last line, and returns the status: where nothing was tried, nothing passed."""
     print(f"{passed} passed, {failed} failed")

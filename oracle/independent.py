@@ -14,6 +14,7 @@ branches, and what a search of one branch writes, or of the whole.
 It shares nothing with the program, and is slow.
 """
 import itertools
+import operator
 import signal
 import sys
 
@@ -69,6 +70,12 @@ def lift(task, report, rounds):
     return "\n".join([*front, "answer map", *(f"m {it}" for it in lifted(task, header["rounds"], values, rounds)), "end\n"])
 
 
+def alive(allowed, points, box):
+    """The tuples of an execution that a box leaves."""
+    candidates = [box[v] for v in points]
+    return [t for t in allowed if all(map(operator.contains, candidates, t))]
+
+
 def closed(made, box, changed=None):
     """The box without the values that have no support in some execution, again and again; None where a point has none left. A box that was
     closed until these points were changed loses no value in an execution without one of them."""
@@ -78,10 +85,12 @@ def closed(made, box, changed=None):
         for _, points, allowed in made.executions:
             if before.isdisjoint(points) and changed.isdisjoint(points):
                 continue
-            alive = [t for t in allowed if all(a in box[v] for a, v in zip(t, points))]
+            tuples = alive(allowed, points, box)
             for place, v in enumerate(points):
-                left = box[v] & {t[place] for t in alive}
-                changed, box[v] = changed | {v} if left != box[v] else changed, left
+                left = box[v] & {t[place] for t in tuples}
+                if left != box[v]:
+                    box[v] = left
+                    changed.add(v)
     return box if all(box) else None
 
 
@@ -129,36 +138,40 @@ def cnf(task, rounds, branch):
 
 def lost(allowed, points, processes, box):
     """What an execution has lost in a box: by process and then by value, a value of a point named once."""
-    alive, named = [t for t in allowed if all(a in box[v] for a, v in zip(t, points))], set()
+    tuples, named = alive(allowed, points, box), set()
     for place, (process, v) in enumerate(zip(processes, points)):
-        for a in sorted(box[v] - {t[place] for t in alive}):
+        for a in sorted(box[v] - {t[place] for t in tuples}):
             if (v, a) not in named:
                 named.add((v, a))
                 yield process, v, a
 
 
-def close(made, box, lines):
-    """Writes the lines of closing a box. Answers what they leave: None where a point was emptied."""
-    box, count = [set(c) for c in box], -1
+def close(made, box, lines, changed=None):
+    """Writes the lines of closing a box, which was closed until these points were changed, if they are given. Answers what they leave:
+    None where a point was emptied."""
+    box, changed = [set(c) for c in box], {*range(made.points)} if changed is None else changed
     empty = next((v for v, c in enumerate(box) if not c), None)
     if empty is not None:
         lines.append(f"z {empty}")
         return None
-    while count != len(lines):
-        count = len(lines)
+    while changed:
+        before, changed = changed, set()
         for e, (processes, points, allowed) in enumerate(made.executions):
+            if before.isdisjoint(points) and changed.isdisjoint(points):
+                continue
             for process, v, a in [*lost(allowed, points, processes, box)]:
                 lines.append(f"p {e} {process} {a}")
                 box[v].discard(a)
+                changed.add(v)
                 if not box[v]:
                     lines.append(f"z {v}")
                     return None
     return box
 
 
-def search(made, box, lines):
-    """Writes the lines of the search of a box. Answers its least map, or None."""
-    left = close(made, box, lines)
+def search(made, box, lines, changed=None):
+    """Writes the lines of the search of a box, which was closed until these points were changed. Answers its least map, or None."""
+    left = close(made, box, lines, changed)
     if left is None:
         return None
     point = next((v for v, c in enumerate(left) if len(c) > 1), None)
@@ -166,7 +179,7 @@ def search(made, box, lines):
         lines.append("f")
         return [min(c) for c in left]
     lines.append(f"b {point}")
-    found = (search(made, [{a} if v == point else c for v, c in enumerate(left)], lines) for a in sorted(left[point]))
+    found = (search(made, [{a} if v == point else c for v, c in enumerate(left)], lines, {point}) for a in sorted(left[point]))
     return next((it for it in found if it), None)
 
 

@@ -21,9 +21,10 @@ class Hole:
     """A branch in the lines that cut a question, where those of its part belong."""
 
 
-def cut(made, box, levels, lines):
-    """Writes the lines that cut a box into branches, so many levels deep, with a hole for each branch."""
-    left = independent.close(made, box, lines)
+def cut(made, box, levels, lines, changed=None):
+    """Writes the lines that cut a box into branches, so many levels deep, with a hole for each branch. The box was closed until these
+    points were changed, if they are given."""
+    left = independent.close(made, box, lines, changed)
     point = next((v for v, c in enumerate(left or []) if len(c) > 1), None)
     if left is None:
         return
@@ -32,7 +33,7 @@ def cut(made, box, levels, lines):
         return
     lines.append(f"b {point}")
     for a in sorted(left[point]):
-        cut(made, [{a} if v == point else c for v, c in enumerate(left)], levels - 1, lines)
+        cut(made, [{a} if v == point else c for v, c in enumerate(left)], levels - 1, lines, {point})
 
 
 def levels(made):
