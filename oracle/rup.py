@@ -96,7 +96,7 @@ class Kept:
     @staticmethod
     def left_of(clause, held):
         """The literals that are not false, or None where one holds."""
-        return None if any(it in held for it in clause) else {it for it in clause if -it not in held}
+        return None if not held.isdisjoint(clause) else {it for it in clause if -it not in held}
 
 
 def steps(text, variables):
