@@ -28,7 +28,7 @@ complete -c wfcheck -n '__fish_seen_subcommand_from solve' -l help -d 'Print hel
 complete -c wfcheck -n '__fish_seen_subcommand_from verify' -l task -r -F -d 'The file that has the task'
 complete -c wfcheck -n '__fish_seen_subcommand_from verify' -l rounds -x -d 'Accept a report only if it is about this many rounds, and name them in the answer. An obstruction fits every number'
 complete -c wfcheck -n '__fish_seen_subcommand_from verify' -l branch -x -d 'One branch of the question alone: its number in the list that branches writes, from 0'
-complete -c wfcheck -n '__fish_seen_subcommand_from verify' -l long -d 'Check a report while it is read, whatever its length; not an obstruction, and not with --branch'
+complete -c wfcheck -n '__fish_seen_subcommand_from verify' -l long -d 'A report may have 2^62 bytes, in place of 16,777,216; not with --branch'
 complete -c wfcheck -n '__fish_seen_subcommand_from verify' -l help -d 'Print help'
 complete -c wfcheck -n '__fish_seen_subcommand_from views' -l rounds -x -d 'How many rounds of immediate snapshots, 0 to 8'
 complete -c wfcheck -n '__fish_seen_subcommand_from views' -l help -d 'Print help'

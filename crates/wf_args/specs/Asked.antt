@@ -94,8 +94,7 @@ solve_asked rows =
 -- by `--branch` and `--long`, of which one at most may be given; a part is checked for the rounds
 -- that are given with it
 abbrev pub verify_in : Option ℕ → Bool → Option ℕ → Result FileJob Mistake
-verify_in None false rounds = Ok (filed.Verify rounds)
-verify_in None true rounds = Ok (filed.VerifyLong rounds)
+verify_in None long rounds = Ok (filed.Verify rounds long)
 verify_in (Some branch) false rounds =
     or_mistake (mistake.Needs piece.Branch piece.Rounds) rounds (λ rounds. Ok (filed.VerifyBranch rounds branch))
 verify_in (Some branch) true rounds = Err (mistake.Beside piece.Long piece.Branch)

@@ -20,11 +20,13 @@ pub enum Job {
 /// What is done with the task in a file, and with what standard input gives about it.
 #[derive(Clone, Copy, Debug)]
 pub enum FileJob {
-    /// Check a report or an obstruction, for these rounds if any are asked for.
-    Verify(Option<u32>),
-    /// Check a report while it is read, so that it may be longer than memory, for these rounds if
-    /// any are asked for.
-    VerifyLong(Option<u32>),
+    /// Check a report or an obstruction.
+    Verify {
+        /// For so many rounds, if any are asked for.
+        rounds: Option<u32>,
+        /// Whether a report may be longer than any other text.
+        long: bool,
+    },
     /// Check the part of an answer that is about one branch of the task's question.
     VerifyBranch {
         /// How many rounds.

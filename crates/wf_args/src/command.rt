@@ -134,7 +134,7 @@ fn verify_command<'a>(alloc: Global) -> Result<Command<'a>, AllocError>
         flag(
             alloc,
             "long",
-            "Check a report while it is read, whatever its length; not an obstruction, and not with --branch",
+            "A report may have 2^62 bytes, in place of 16,777,216; not with --branch",
         ),
     )
 }

@@ -164,8 +164,7 @@ fn verify_job(found: &ArgMatches<'_>) -> Result<FileJob, Mistake>
 {
     let rounds = number(found, "rounds");
     match (number(found, "branch"), flag(found, "long")) {
-        (None, false) => Ok(FileJob::Verify(rounds)),
-        (None, true) => Ok(FileJob::VerifyLong(rounds)),
+        (None, long) => Ok(FileJob::Verify { rounds, long }),
         (Some(branch), false) => Ok(FileJob::VerifyBranch {
             rounds: rounds.ok_or(Mistake::Needs(Piece::Branch, Piece::Rounds))?,
             branch,

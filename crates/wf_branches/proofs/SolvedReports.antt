@@ -36,7 +36,7 @@ finds_none t r task fails = by_map (canonical (problem_of t r) (root (problem_of
 
 module _ (t : Task) (r : ℕ) where
   none_text_accepted : (ls : List Line) (text : List ℕ) (answer : Result (Accepted × List ℕ) RunFault) → IsTask t → HasComplex t r → IsRefutation t r ls
-      → text ≡ text_of_report t r (none ls) → length text ≤ most_bytes → ChecksText None t text answer → Accepts accepted.Nothing answer
+      → text ≡ text_of_report t r (none ls) → length text ≤ most_bytes → ChecksText most_bytes None t text answer → Accepts accepted.Nothing answer
   none_text_accepted ls text answer task within refuted is short checks =
       let lines : List Line = (canonical (problem_of t r) (root (problem_of t r))).lines in
       let written : text ≡ text_of_report t r (none lines) = is ∙ ap (λ x. text_of_report t r (none x)) refuted.canonical_lines in
@@ -45,7 +45,7 @@ module _ (t : Task) (r : ℕ) where
       (canonical_none_accepted t r task (finds_none t r task refuted.no_map)) written short checks
 
   least_text_accepted : (m : View → ℕ) (ls : List Line) (text : List ℕ) (answer : Result (Accepted × List ℕ) RunFault) → IsTask t → HasComplex t r → IsDecisionMap t r m → LeadsToMap t r (listed t r m) ls
-      → text ≡ text_of_report t r (least (listed t r m) ls) → length text ≤ most_bytes → ChecksText None t text answer → Accepts accepted.Least answer
+      → text ≡ text_of_report t r (least (listed t r m) ls) → length text ≤ most_bytes → ChecksText most_bytes None t text answer → Accepts accepted.Least answer
   least_text_accepted m ls text answer task within decides leads is short checks =
       let lines : List Line = (canonical (problem_of t r) (root (problem_of t r))).lines in
       let written : text ≡ text_of_report t r (least (listed t r m) lines) = is ∙ ap (λ x. text_of_report t r (least (listed t r m) x)) leads.canonical_lines in
@@ -56,7 +56,7 @@ module _ (t : Task) (r : ℕ) where
 
 pub found_accepted : (t : Task) (r : ℕ) (asked : Form) (found : Outcome) (text : List ℕ) (answer : Result (Accepted × List ℕ) RunFault)
     → IsTask t → HasComplex t r → asked ≢ form.Verdict → IsFound asked t r found text → length text ≤ most_bytes
-    → ChecksText None t text answer → Accepts (accepted_as asked found) answer
+    → ChecksText most_bytes None t text answer → Accepts (accepted_as asked found) answer
 found_accepted t r form.Full outcome.Map text answer task within shows (m, ls, is_least, leads, is) short checks =
     map_text_accepted t r None m text answer tt task within is_least.decides is short checks
 found_accepted t r form.Least outcome.Map text answer task within shows (m, ls, is_least, leads, is) short checks =

@@ -1,5 +1,5 @@
 -- A part that a search wrote is read as the report that stands in it.
-use Rattle.std.proofs.Common.{◌≡◌, ◌∙◌, ◌⊎◌, inl, inr, ◌<◌, ℕ, List, ◌++◌, length, Result, Ok, Err, refl, sym, ap, subst}
+use Rattle.std.proofs.Common.{◌≡◌, ◌∙◌, ◌⊎◌, inl, inr, ◌<◌, ℕ, List, ◌++◌, length, Result, Ok, Err, refl, sym, ap, subst, arith}
 use Rattle.std.proofs.lemmas.List.{append_cancel_left}
 use Rattle.wf_model.specs.Limits.{most_bytes}
 use Rattle.wf_model.specs.Task.{Task}
@@ -14,7 +14,7 @@ use Rattle.wf_run.specs.Texts.{text_of_report}
 use Rattle.wf_run.specs.declared.fault.PartFault.TheVariants as part
 use Rattle.wf_run.specs.declared.fault.RunFault.{RunFault}
 use Rattle.wf_run.specs.declared.fault.RunFault.TheVariants as run
-use Rattle.wf_verify_engine.proofs.Lemmas.{unrefused}
+use Rattle.wf_verify_engine.proofs.Lemmas.{few_lines, unrefused}
 use Rattle.wf_branches.specs.Solving.{part_head, part_text}
 use Rattle.wf_branches.specs.Verifying.{ChecksIn, IsPartOf}
 use Rattle.wf_branches.specs.Joining.{AcceptsBody, IsBodyIn, TakesPart, among_parts, in_part}
@@ -68,7 +68,10 @@ module _ (t : Task) (r i : ℕ) (body : Body) (within : IsWithin t r body) where
   unfolding text_of_report
   unread run.OtherPart is = absurd (is (report_text (report_about t r body)) refl)
   unread run.OutOfMemory is = inl refl
-  unread run.TooLong (rest, begins, long) = inr (refl, subst (λ x. most_bytes < length x) (behind_head rest begins) long)
+  unread run.TooLong (rest, begins, inl long) = inr (refl, subst (λ x. most_bytes < length x) (behind_head rest begins) long)
+  unread run.TooLong (rest, begins, inr many) =
+      let lines = few_lines rest in
+      inr (refl, subst (λ x. most_bytes < length x) (behind_head rest begins) (omega (arith, lines, many)))
   unread (run.Cert e) is = absurd (no_fault_in e is)
   unread e (rest, begins, bad) = absurd bad
 

@@ -106,7 +106,7 @@ JoinsAreAccepted =
     → Joins rounds task task' parts parts' sink sink' (Ok tt)
     → (t : Task) × (body : Body) × (text : List ℕ) × GaveTask task task' t × (text ≡ text_of_report t rounds body) × Wrote sink sink' text
     × (length text ≤ most_bytes → (answer : Result (Accepted × List ℕ) RunFault)
-    → ChecksText (Some rounds) t text answer → Accepts (accepted_of body) answer)
+    → ChecksText most_bytes (Some rounds) t text answer → Accepts (accepted_of body) answer)
 
 abbrev pub JoiningIsCounted : Type 0
 JoiningIsCounted =

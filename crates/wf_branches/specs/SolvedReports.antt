@@ -28,4 +28,4 @@ abbrev pub SolvedReportsAreAccepted : Type 0
 SolvedReportsAreAccepted =
     (t : Task) (r : ℕ) (asked : Form) (found : Outcome) (text : List ℕ) (answer : Result (Accepted × List ℕ) RunFault)
     → IsTask t → HasComplex t r → asked ≢ form.Verdict → IsFound asked t r found text → length text ≤ most_bytes
-    → ChecksText None t text answer → Accepts (accepted_as asked found) answer
+    → ChecksText most_bytes None t text answer → Accepts (accepted_as asked found) answer

@@ -28,8 +28,8 @@ abbrev pub IsPartOf : ℕ → ℕ → List ℕ → Result Report RunFault → Ty
 IsPartOf i n text (Ok report) = (rest : List ℕ) × (text ≡ part_head i n ++ rest) × (length rest ≤ most_bytes) × (report_of 2 rest ≡ Ok report)
 IsPartOf i n text (Err OtherPart) = (rest : List ℕ) → text ≡ part_head i n ++ rest → ⊥
 IsPartOf i n text (Err OutOfMemory) = Unit {0}
-IsPartOf i n text (Err (Cert e)) = (rest : List ℕ) × (text ≡ part_head i n ++ rest) × (length rest ≤ most_bytes) × IsReportOf rest (Err (Cert e))
-IsPartOf i n text (Err e) = (rest : List ℕ) × (text ≡ part_head i n ++ rest) × IsReportOf rest (Err e)
+IsPartOf i n text (Err (Cert e)) = (rest : List ℕ) × (text ≡ part_head i n ++ rest) × (length rest ≤ most_bytes) × IsReportOf most_bytes rest (Err (Cert e))
+IsPartOf i n text (Err e) = (rest : List ℕ) × (text ≡ part_head i n ++ rest) × IsReportOf most_bytes rest (Err e)
 
 -- What a part says of branch i. A map lists a decision map over the points that lies there, and
 -- with lines the least one there. Where there is none, no decision map lies there.

@@ -8,6 +8,8 @@ pub mod FirstLemmas
 pub mod SettledLemmas
 pub mod SupportLemmas
 pub mod TruthLemmas
+pub mod JudgedSteps
+pub mod KeptValues
 mod RowBlockLemmas
 mod BuildLemmas
 mod GroupLemmas

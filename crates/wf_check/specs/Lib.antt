@@ -4,6 +4,7 @@ pub mod Truth
 pub mod Within
 pub mod Left
 pub mod Rules
+pub mod Judged
 -- What only this crate's own code and proofs use.
 pub mod Blocks
 pub mod Settled

@@ -3,10 +3,8 @@ use Rattle.std.proofs.Common.{◌≡◌, ℕ, ◌+◌, ◌≤◌, inl, inr, Resu
 use Rattle.std.specs.Prelude.{◌≢◌, string_bytes}
 use Rattle.wf_io.specs.Seen.{Reading, Writing}
 use Rattle.wf_run.specs.declared.fault.RunFault.{RunFault}
-use Rattle.wf_verify_engine.proofs.Lemmas.{certified, proved, proved_by_hints}
-use Rattle.wf_model.specs.Limits.{most_bytes}
-use Rattle.wf_long.specs.Long.{most_report_bytes}
-use Rattle.wf_long.proofs.Lemmas.{long_counted}
+use Rattle.wf_verify_engine.proofs.Lemmas.{certified, least_most, proved, proved_by_hints}
+use Rattle.wf_verify_engine.specs.Verify as verify
 use Rattle.wf_words.specs.declared.fault.WordsFault.{WordsFault}
 use Rattle.wf_service.specs.Files.{Filing, Opens, state_of}
 use Rattle.wf_service.specs.FileLaws.{Checked, IsFiled, IsFileRun}
@@ -15,17 +13,16 @@ use Rattle.wf_service.specs.Refusals.{as_file_refusal, fault_status, refusal_sta
 use Rattle.wf_service.specs.declared.refusal.Refusal.{Refusal}
 use Rattle.wf_service.specs.Laws.{IsDeclined, calls_by, calls_by_status}
 use Rattle.wf_checker.specs.declared.job.Check.{Check}
-use Rattle.wf_checker.specs.declared.job.Check.TheVariants.{Certificate, LongReport, Proof, HintedProof}
+use Rattle.wf_checker.specs.declared.job.Check.TheVariants.{Certificate, Proof, HintedProof}
 use Rattle.wf_checker.specs.declared.job.CheckJob.{CheckJob}
 use Rattle.wf_checker.specs.Checker.{Checks, DoesCheck, EndsCheck}
 use Rattle.wf_checker.specs.Laws.{IsCheckServed, files_of, most_given, most_of}
 
 -- what is counted of each check
 checked : (check : Check) → Checked (most_of check) (Checks check)
-checked (Certificate rounds) task task' source source' sink sink' result (answer, does, is) =
-    without most_bytes task task' source source' sink sink' answer result is (certified rounds task task' source source' sink sink' answer does)
-checked (LongReport rounds) task task' source source' sink sink' result (answer, does, is) =
-    without most_report_bytes task task' source source' sink sink' answer result is (long_counted rounds task task' source source' sink sink' answer does)
+checked (Certificate rounds long) task task' source source' sink sink' result (answer, does, is) =
+    let most = verify.most_of long in
+    without most task task' source source' sink sink' answer result is (certified most rounds task task' source source' sink sink' answer (least_most long) does)
 checked (Proof rounds) task task' source source' sink sink' result does = proved rounds task task' source source' sink sink' result does
 checked (HintedProof rounds) task task' source source' sink sink' result does = proved_by_hints rounds task task' source source' sink sink' result does
 

@@ -7,10 +7,8 @@ use Rattle.wf_run.specs.declared.fault.RunFault.TheVariants.{Read}
 use Rattle.wf_verify_engine.specs.Certificates.{VerifiesCertificate}
 use Rattle.wf_verify_engine.specs.declared.outcome.Verified.{Verified}
 use Rattle.wf_verify_engine.specs.declared.outcome.Verified.TheVariants as verified
-use Rattle.wf_verify_engine.specs.declared.outcome.Accepted.{Accepted}
 use Rattle.wf_verify_engine.proofs.Lemmas.{acceptances_true, obstructions_true, reports_verified, refutations_true, hinted_refutations_true}
-use Rattle.wf_long.specs.Long.{VerifiesLong}
-use Rattle.wf_long.proofs.Lemmas.{long_acceptances_true}
+use Rattle.wf_verify_engine.specs.Verify.{most_of}
 use Rattle.wf_words.specs.declared.fault.WordsFault.{WordsFault}
 use Rattle.wf_service.specs.Files.{Filing, Opens, state_of, unread}
 use Rattle.wf_service.specs.FileRuns.{WithFile, without_answer}
@@ -18,30 +16,22 @@ use Rattle.wf_service.specs.Refusals.{as_file_refusal}
 use Rattle.wf_service.specs.declared.refusal.Refusal.{Refusal}
 use Rattle.wf_service.proofs.Lemmas.{has_status}
 use Rattle.wf_checker.specs.declared.job.Check.{Check}
-use Rattle.wf_checker.specs.declared.job.Check.TheVariants.{Certificate, LongReport, Proof, HintedProof}
+use Rattle.wf_checker.specs.declared.job.Check.TheVariants.{Certificate, Proof, HintedProof}
 use Rattle.wf_checker.specs.declared.job.CheckJob.{CheckJob}
 use Rattle.wf_checker.specs.Checker.{Checks, DoesCheck, EndsCheck}
-use Rattle.wf_checker.specs.Headline.{IsTrue, IsTrueOf}
+use Rattle.wf_checker.specs.Headline.{IsTrue, IsTrueCertificate, IsTrueOf}
 
 module _ (task task' source source' : Reading) (sink sink' : Writing) where
-  of_certificate : (rounds : Option ℕ) (answer : Result Verified RunFault) → VerifiesCertificate rounds task task' source source' sink sink' answer → Ok tt ≡ without_answer answer
-      → IsTrue (Certificate rounds) task task' source source' sink sink'
-  of_certificate rounds (Ok (verified.Report accepted)) does is =
-      let said = acceptances_true rounds task task' source source' sink sink' accepted (reports_verified rounds task task' source source' sink sink' accepted does) in
+  of_certificate : (most : ℕ) (rounds : Option ℕ) (answer : Result Verified RunFault) → VerifiesCertificate most rounds task task' source source' sink sink' answer → Ok tt ≡ without_answer answer
+      → IsTrueCertificate rounds task task' source source' sink sink'
+  of_certificate most rounds (Ok (verified.Report accepted)) does is =
+      let said = acceptances_true most rounds task task' source source' sink sink' accepted (reports_verified most rounds task task' source source' sink sink' accepted does) in
       inl (said.0, said.1, said.2, said.3, said.4, said.6)
-  of_certificate rounds (Ok verified.Obstruction) does is = inr (obstructions_true rounds task task' source source' sink sink' does)
-  of_certificate rounds (Err e) does is = absurd (let bad : ⊥ = cc in bad)
-
-  of_long : (rounds : Option ℕ) (answer : Result Accepted RunFault) → VerifiesLong rounds task task' source source' sink sink' answer → Ok tt ≡ without_answer answer
-      → IsTrue (LongReport rounds) task task' source source' sink sink'
-  of_long rounds (Ok accepted) does is =
-      let said = long_acceptances_true rounds task task' source source' sink sink' accepted does in
-      (said.0, said.1, said.2, said.3, said.4, said.6)
-  of_long rounds (Err e) does is = absurd (let bad : ⊥ = cc in bad)
+  of_certificate most rounds (Ok verified.Obstruction) does is = inr (obstructions_true most rounds task task' source source' sink sink' does)
+  of_certificate most rounds (Err e) does is = absurd (let bad : ⊥ = cc in bad)
 
   pub of_check : (check : Check) → Checks check task task' source source' sink sink' (Ok tt) → IsTrue check task task' source source' sink sink'
-  of_check (Certificate rounds) (answer, does, is) = of_certificate rounds answer does is
-  of_check (LongReport rounds) (answer, does, is) = of_long rounds answer does is
+  of_check (Certificate rounds long) (answer, does, is) = of_certificate (most_of long) rounds answer does is
   of_check (Proof rounds) does = refutations_true rounds task task' source source' sink sink' does
   of_check (HintedProof rounds) does = hinted_refutations_true rounds task task' source source' sink sink' does
 

@@ -10,7 +10,7 @@ use Rattle.wf_words.specs.declared.mistake.Mistake.{Mistake}
 use Rattle.wf_words.specs.declared.mistake.Mistake.TheVariants as mistake
 use Rattle.wf_checker.specs.CommandLine.{command_line}
 use Rattle.wf_checker.specs.declared.job.Check.{Check}
-use Rattle.wf_checker.specs.declared.job.Check.TheVariants.{Certificate, LongReport, Proof, HintedProof}
+use Rattle.wf_checker.specs.declared.job.Check.TheVariants.{Certificate, Proof, HintedProof}
 use Rattle.wf_checker.specs.declared.job.CheckJob.{CheckJob}
 
 -- a clausal proof of one kind, for the rounds that it needs
@@ -20,8 +20,7 @@ proof_for flag check None = Err (mistake.Needs flag piece.Rounds)
 
 -- what is checked, by `--proof`, `--lrat` and `--long`, of which one at most may be given
 abbrev pub check_for : Bool → Bool → Bool → Option ℕ → Result Check Mistake
-check_for false false false rounds = Ok (Certificate rounds)
-check_for false false true rounds = Ok (LongReport rounds)
+check_for false false long rounds = Ok (Certificate rounds long)
 check_for true false false rounds = proof_for piece.Proof Proof rounds
 check_for false true false rounds = proof_for piece.Lrat HintedProof rounds
 check_for true true long rounds = Err (mistake.Beside piece.Proof piece.Lrat)

@@ -4,7 +4,7 @@ use Rattle.wf_io.specs.Seen.{Reading, Writing}
 use Rattle.wf_io.specs.Ends.{CanCount, CanWrite}
 use Rattle.wf_verify_engine.specs.Certificates.{VerifiesCertificate}
 use Rattle.wf_verify_engine.specs.Proofs.{Refutes}
-use Rattle.wf_long.specs.Long.{VerifiesLong}
+use Rattle.wf_verify_engine.specs.Verify.{most_of}
 use Rattle.wf_verify_engine.specs.Hints.{RefutesByHints}
 use Rattle.wf_run.specs.declared.fault.RunFault.{RunFault}
 use Rattle.wf_words.specs.Asked.{GivenWords, IsAsked}
@@ -16,13 +16,12 @@ use Rattle.wf_service.specs.Showing.{DeclinesAs}
 use Rattle.wf_service.specs.declared.refusal.Refusal.{Refusal}
 use Rattle.wf_checker.specs.Asked.{job_asked}
 use Rattle.wf_checker.specs.declared.job.Check.{Check}
-use Rattle.wf_checker.specs.declared.job.Check.TheVariants.{Certificate, LongReport, Proof, HintedProof}
+use Rattle.wf_checker.specs.declared.job.Check.TheVariants.{Certificate, Proof, HintedProof}
 use Rattle.wf_checker.specs.declared.job.CheckJob.{CheckJob}
 
 -- a certificate about a task was checked
 abbrev pub Checks : Check → DoesBoth (Unit {0})
-Checks (Certificate rounds) task task' source source' sink sink' result = Did (VerifiesCertificate rounds) task task' source source' sink sink' result
-Checks (LongReport rounds) task task' source source' sink sink' result = Did (VerifiesLong rounds) task task' source source' sink sink' result
+Checks (Certificate rounds long) task task' source source' sink sink' result = Did (VerifiesCertificate (most_of long) rounds) task task' source source' sink sink' result
 Checks (Proof rounds) task task' source source' sink sink' result = Refutes rounds task task' source source' sink sink' result
 Checks (HintedProof rounds) task task' source source' sink sink' result = RefutesByHints rounds task task' source source' sink sink' result
 

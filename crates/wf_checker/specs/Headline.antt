@@ -15,7 +15,7 @@ use Rattle.wf_service.specs.Files.{Filing, Opens, after_asking, unread}
 use Rattle.wf_checker.specs.Asked.{job_asked}
 use Rattle.wf_checker.specs.Checker.{ServesCheck}
 use Rattle.wf_checker.specs.declared.job.Check.{Check}
-use Rattle.wf_checker.specs.declared.job.Check.TheVariants.{Certificate, LongReport, Proof, HintedProof}
+use Rattle.wf_checker.specs.declared.job.Check.TheVariants.{Certificate, Proof, HintedProof}
 use Rattle.wf_checker.specs.declared.job.CheckJob.{CheckJob}
 
 -- The sources gave a task and the text of a true report about it, which is about the rounds that
@@ -37,11 +37,14 @@ abbrev pub IsTrueProof : ℕ → Reading → Reading → Writing → Writing →
 IsTrueProof rounds task task' sink sink' =
     (t : Task) × GaveTask task task' t × HasNoDecisionMap t rounds × Wrote sink sink' (accepted_text (Some rounds) (none []))
 
+-- one of both
+abbrev pub IsTrueCertificate : Option ℕ → Reading → Reading → Reading → Reading → Writing → Writing → Type 0
+IsTrueCertificate rounds task task' source source' sink sink' =
+    IsTrueReport rounds task task' source source' sink sink' ⊎ IsTrueObstruction rounds task task' sink sink'
+
 -- what is true if a check accepts
 abbrev pub IsTrue : Check → Reading → Reading → Reading → Reading → Writing → Writing → Type 0
-IsTrue (Certificate rounds) task task' source source' sink sink' =
-    IsTrueReport rounds task task' source source' sink sink' ⊎ IsTrueObstruction rounds task task' sink sink'
-IsTrue (LongReport rounds) task task' source source' sink sink' = IsTrueReport rounds task task' source source' sink sink'
+IsTrue (Certificate rounds long) task task' source source' sink sink' = IsTrueCertificate rounds task task' source source' sink sink'
 IsTrue (Proof rounds) task task' source source' sink sink' = IsTrueProof rounds task task' sink sink'
 IsTrue (HintedProof rounds) task task' source source' sink sink' = IsTrueProof rounds task task' sink sink'
 

@@ -3,7 +3,7 @@ use Rattle.std.specs.Prelude.{◌≡◌, ◌+◌, ◌≤◌, ◌⊎◌, ℕ, Res
 use Rattle.wf_model.specs.Limits.{most_bytes}
 use Rattle.wf_io.specs.Seen.{Reading, Writing}
 use Rattle.wf_verify_engine.specs.Proofs.{most_proof_bytes}
-use Rattle.wf_long.specs.Long.{most_report_bytes}
+use Rattle.wf_verify_engine.specs.Verify as verify
 use Rattle.wf_words.specs.Asked.{GivenWords, IsAsked}
 use Rattle.wf_words.specs.declared.fault.WordsFault.{WordsFault}
 use Rattle.wf_service.specs.Files.{Filing, Opens}
@@ -12,7 +12,7 @@ use Rattle.wf_service.specs.Laws.{calls_by_status}
 use Rattle.wf_checker.specs.Asked.{job_asked}
 use Rattle.wf_checker.specs.Checker.{ServesCheck}
 use Rattle.wf_checker.specs.declared.job.Check.{Check}
-use Rattle.wf_checker.specs.declared.job.Check.TheVariants.{Certificate, LongReport}
+use Rattle.wf_checker.specs.declared.job.Check.TheVariants.{Certificate}
 use Rattle.wf_checker.specs.declared.job.CheckJob.{CheckJob}
 
 -- how many files a job opens
@@ -22,8 +22,7 @@ files_of (Err e) = 0
 
 -- how many bytes a certificate may have
 abbrev pub most_of : Check → ℕ
-most_of (Certificate rounds) = most_bytes
-most_of (LongReport rounds) = most_report_bytes
+most_of (Certificate rounds long) = verify.most_of long
 most_of check = most_proof_bytes
 
 abbrev pub most_given : Result CheckJob WordsFault → ℕ

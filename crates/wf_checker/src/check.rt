@@ -8,7 +8,6 @@ use std::alloc::Global;
 use std::io::{Read, Write};
 use std::thread::Threads;
 use wf_io::{Sink, Source};
-use wf_long::AcceptedLongReport;
 use wf_run::{RunFault, run_over_both, run_over_pair};
 use wf_service::{TaskRun, without_answer};
 use wf_verify_engine::{AcceptedCertificate, Clausal, Hinted, NoneByProof, Unheard};
@@ -35,12 +34,12 @@ impl<'a, T: Threads + Sync> TaskRun for CheckRun<'a, T> {
         let CheckRun { rt, alloc, check } = *self;
         let listener = None::<&Unheard>;
         match check {
-            Check::Certificate(rounds) => {
-                let accepted = AcceptedCertificate { rt, rounds };
-                without_answer(run_over_pair(alloc, task, source, sink, &accepted))
-            }
-            Check::LongReport(rounds) => {
-                let accepted = AcceptedLongReport { rt, rounds };
+            Check::Certificate { rounds, long } => {
+                let accepted = AcceptedCertificate {
+                    rt,
+                    rounds,
+                    is_long: long,
+                };
                 without_answer(run_over_pair(alloc, task, source, sink, &accepted))
             }
             Check::Proof(rounds) => {

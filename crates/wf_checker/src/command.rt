@@ -51,7 +51,7 @@ pub(crate) fn whole_command<'a>(alloc: Global) -> Result<Command<'a>, AllocError
         flag(
             alloc,
             "long",
-            "The certificate is a report, which is checked while it is read, whatever its length",
+            "A report may have 2^62 bytes, in place of 16,777,216",
         ),
     )
 }

@@ -14,10 +14,13 @@ use wf_words::{Mistake, Piece, WordsFault, missing, parse};
 /// What is checked about a task.
 #[derive(Clone, Copy, Debug, PartialEq, Eq)]
 pub enum Check {
-    /// A report or an obstruction, for these rounds if any are asked for.
-    Certificate(Option<u32>),
-    /// A report that may be longer than memory, for these rounds if any are asked for.
-    LongReport(Option<u32>),
+    /// A report or an obstruction.
+    Certificate {
+        /// For so many rounds, if any are asked for.
+        rounds: Option<u32>,
+        /// Whether a report may be longer than any other text.
+        long: bool,
+    },
     /// A solver's clausal proof that there is no decision map after so many rounds.
     Proof(u32),
     /// A solver's clausal proof with hints that there is no decision map after so many rounds.
@@ -72,8 +75,7 @@ fn check_in(found: &ArgMatches<'_>) -> Result<Check, Mistake>
         flag(found, "lrat"),
         flag(found, "long"),
     ) {
-        (false, false, false) => Ok(Check::Certificate(rounds)),
-        (false, false, true) => Ok(Check::LongReport(rounds)),
+        (false, false, long) => Ok(Check::Certificate { rounds, long }),
         (true, false, false) => match rounds {
             Some(rounds) => Ok(Check::Proof(rounds)),
             None => Err(Mistake::Needs(Piece::Proof, Piece::Rounds)),

@@ -2,8 +2,8 @@
 //!
 //! [`run_checker`] checks what standard input gives about the task in a file: a report, an
 //! obstruction, a clausal proof, or one with hints. Its relation is in `specs/Checker.antt`, and
-//! what status 0 means in `specs/Headline.antt`. It calls the engines of `wf_verify_engine` and
-//! `wf_long`, and stands on nothing of the search, nor of the finder.
+//! what status 0 means in `specs/Headline.antt`. It calls the engines of `wf_verify_engine`, and
+//! stands on nothing of the search, nor of the finder.
 //!
 //! [`read_words`] makes a [`CheckJob`] of words, or says why they make none.
 //! `specs/CommandLine.antt` has the command line, and `specs/Asked.antt` says which words ask for

@@ -9,8 +9,6 @@ use Rattle.wf_core.specs.declared.Account.{Account}
 use Rattle.wf_lines.specs.declared.form.Form.{Form}
 use Rattle.wf_io.specs.Seen.{Reading, Writing}
 use Rattle.wf_argument_words.specs.Listing.{executions_text}
-use Rattle.wf_long.specs.Long.{most_report_bytes}
-use Rattle.wf_long.proofs.Lemmas.{long_counted}
 use Rattle.wf_words.specs.declared.fault.WordsFault.{WordsFault}
 use Rattle.wf_args.specs.declared.asked.Job.{Job}
 use Rattle.wf_args.specs.declared.asked.Job.TheVariants as job
@@ -28,8 +26,8 @@ use Rattle.wf_run.specs.Texts.{IsTextOf, undecided_points}
 use Rattle.wf_run.specs.Laws.{IsCounted, IsWritten}
 use Rattle.wf_run.proofs.Lemmas.{counted, preset_counted}
 use Rattle.wf_verify_engine.specs.Proofs.{most_proof_bytes}
-use Rattle.wf_verify_engine.specs.Verify.{AreDecisions}
-use Rattle.wf_verify_engine.proofs.Lemmas.{certified, checked, modelled, proved, proved_by_hints}
+use Rattle.wf_verify_engine.specs.Verify.{AreDecisions, most_of}
+use Rattle.wf_verify_engine.proofs.Lemmas.{certified, checked, least_most, modelled, proved, proved_by_hints}
 use Rattle.wf_branches.specs.Branches.{IsBranchTextOf}
 use Rattle.wf_branches.specs.Listing.{branches_text}
 use Rattle.wf_branches.specs.Solving.{IsSolvedIn}
@@ -167,10 +165,9 @@ proof_counted rounds (Some branch) true file file' source source' sink sink' res
 
 -- what is counted of each job with the task in a file
 did_with : (f : FileJob) → Checked (most_beside f) (DoesWithFile f)
-did_with (filed.Verify rounds) file file' source source' sink sink' result (answer, does, is) =
-    service.without most_bytes file file' source source' sink sink' answer result is (certified rounds file file' source source' sink sink' answer does)
-did_with (filed.VerifyLong rounds) file file' source source' sink sink' result (answer, does, is) =
-    service.without most_report_bytes file file' source source' sink sink' answer result is (long_counted rounds file file' source source' sink sink' answer does)
+did_with (filed.Verify rounds long) file file' source source' sink sink' result (answer, does, is) =
+    let most = most_of long in
+    service.without most file file' source source' sink sink' answer result is (certified most rounds file file' source source' sink sink' answer (least_most long) does)
 did_with (filed.VerifyBranch rounds branch) file file' source source' sink sink' result does = part_checked rounds branch file file' source source' sink sink' result does
 did_with (filed.Join rounds) file file' source source' sink sink' result does = joining_counted rounds file file' source source' sink sink' result does
 did_with (filed.Model rounds) file file' source source' sink sink' result does = modelled rounds file file' source source' sink sink' result does

@@ -3,7 +3,7 @@ use Rattle.std.specs.Prelude.{◌≡◌, ◌+◌, ◌≤◌, ◌⊎◌, ℕ, Opt
 use Rattle.wf_model.specs.Limits.{most_bytes}
 use Rattle.wf_io.specs.Seen.{Reading, Writing}
 use Rattle.wf_verify_engine.specs.Proofs.{most_proof_bytes}
-use Rattle.wf_long.specs.Long.{most_report_bytes}
+use Rattle.wf_verify_engine.specs.Verify.{most_of}
 use Rattle.wf_branches.specs.Joining.{most_parts_bytes}
 use Rattle.wf_words.specs.Asked.{GivenWords, IsAsked}
 use Rattle.wf_words.specs.declared.fault.WordsFault.{WordsFault}
@@ -25,7 +25,7 @@ file_count asked = 0
 
 -- how many bytes the text may have that is read of the source, beside a task in a file
 abbrev pub most_beside : FileJob → ℕ
-most_beside (filed.VerifyLong rounds) = most_report_bytes
+most_beside (filed.Verify rounds long) = most_of long
 most_beside (filed.Proof asked) = most_proof_bytes
 most_beside (filed.Join rounds) = most_parts_bytes
 most_beside what = most_bytes

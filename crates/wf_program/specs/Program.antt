@@ -13,11 +13,10 @@ use Rattle.wf_engine.specs.declared.outcome.Outcome.TheVariants.{Map, Nothing}
 use Rattle.wf_run.specs.declared.fault.RunFault.{RunFault}
 use Rattle.wf_engine.specs.Texts.{Finds, Solves, SearchesInOrder}
 use Rattle.wf_run.specs.Texts.{Lists, undecided_points}
-use Rattle.wf_verify_engine.specs.Verify.{Decides}
+use Rattle.wf_verify_engine.specs.Verify.{Decides, most_of}
 use Rattle.wf_verify_engine.specs.Certificates.{VerifiesCertificate}
 use Rattle.wf_verify_engine.specs.Models.{Models}
 use Rattle.wf_verify_engine.specs.Proofs.{Refutes}
-use Rattle.wf_long.specs.Long.{VerifiesLong}
 use Rattle.wf_verify_engine.specs.Hints.{RefutesByHints}
 use Rattle.wf_run.specs.Presets.{WritesPreset}
 use Rattle.wf_argument_words.specs.Listing.{executions_text}
@@ -124,8 +123,7 @@ abbrev pub ChecksProof : ProofJob → DoesBoth (Unit {0})
 ChecksProof asked = ChecksProofBy asked.rounds asked.branch asked.hints
 
 abbrev pub DoesWithFile : FileJob → DoesBoth (Unit {0})
-DoesWithFile (filed.Verify rounds) = Did (VerifiesCertificate rounds)
-DoesWithFile (filed.VerifyLong rounds) = Did (VerifiesLong rounds)
+DoesWithFile (filed.Verify rounds long) = Did (VerifiesCertificate (most_of long) rounds)
 DoesWithFile (filed.VerifyBranch rounds branch) = VerifiesBranch rounds branch
 DoesWithFile (filed.Join rounds) = Joins rounds
 DoesWithFile (filed.Model rounds) = Models rounds

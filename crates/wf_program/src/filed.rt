@@ -14,7 +14,6 @@ use std::thread::Threads;
 use wf_args::{FileJob, ProofJob};
 use wf_branches::{NoneInBranch, PartOfBranch, WholeOfParts};
 use wf_io::{Sink, Source};
-use wf_long::AcceptedLongReport;
 use wf_report_engine::{CertificateInWords, LiftedMap, ShorterReport};
 use wf_run::{RunFault, run_over_both, run_over_pair};
 use wf_service::{Files, Opener, Refusal, TaskRun, as_file_refusal, run_with_file, without_answer};
@@ -123,12 +122,12 @@ impl<'a, T: Threads + Sync, L: ProofListener> TaskRun for FileRun<'a, T, L> {
     ) -> Result<(), RunFault> {
         let (rt, alloc) = (self.rt, self.alloc);
         match self.job {
-            FileJob::Verify(rounds) => {
-                let accepted = AcceptedCertificate { rt, rounds };
-                without_answer(run_over_pair(alloc, task, source, sink, &accepted))
-            }
-            FileJob::VerifyLong(rounds) => {
-                let accepted = AcceptedLongReport { rt, rounds };
+            FileJob::Verify { rounds, long } => {
+                let accepted = AcceptedCertificate {
+                    rt,
+                    rounds,
+                    is_long: long,
+                };
                 without_answer(run_over_pair(alloc, task, source, sink, &accepted))
             }
             FileJob::VerifyBranch { rounds, branch } => {

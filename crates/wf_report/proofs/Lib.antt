@@ -6,4 +6,11 @@ pub mod LineLemmas
 pub mod BodyLemmas
 pub mod WrittenLemmas
 pub mod ReadBackLemmas
+pub mod BadLines
+pub mod Chains
+pub mod Fronts
+pub mod InTurn
+pub mod Rooms
+pub mod Fills
+pub mod Bodies
 pub mod Lemmas

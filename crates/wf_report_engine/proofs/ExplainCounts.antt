@@ -36,7 +36,7 @@ module _ (t : Task) where
   of_text : (given : List ℕ) (answer : Result (Unit {0} × List ℕ) RunFault) → ExplainsText t given answer → FailsNone answer
   of_text given answer (inl (begins, (o, is, next))) = of_obstruction given o answer is next
   of_text given answer (inr (begins, (r, is, next))) =
-      let a = judged_report (Ok given) r is in
+      let a = judged_report most_bytes (Ok given) r is in
       let b = verified None AreExplained t r answer next a.1 in
       (a.0 ∙ b.0, b.1)
 

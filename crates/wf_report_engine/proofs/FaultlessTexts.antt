@@ -8,7 +8,7 @@ use Rattle.wf_complex.specs.declared.fault.BuildFault.TheVariants as build
 use Rattle.wf_report.specs.Grammar.{IsInGrammar}
 use Rattle.wf_report.specs.declared.fault.CertFault.TheVariants as amiss
 use Rattle.wf_report.proofs.Lemmas.{written_read}
-use Rattle.wf_verify_engine.proofs.Lemmas.{unrefused}
+use Rattle.wf_verify_engine.proofs.Lemmas.{few_lines, unrefused}
 use Rattle.wf_verify_engine.specs.declared.outcome.Accepted.{Accepted}
 use Rattle.wf_run.specs.declared.fault.RunFault.{RunFault}
 use Rattle.wf_run.specs.declared.fault.RunFault.TheVariants as run
@@ -36,7 +36,7 @@ module _ (t : Task) (r : Report) (faultless : IsFaultless t r) where
 
   -- the answer about its text
   pub accepts_text : (rounds : Option ℕ) (answer : Result (Accepted × List ℕ) RunFault) → AreAsked rounds r.rounds → IsInGrammar r → length (report_text r) ≤ most_bytes
-      → ChecksText rounds t (report_text r) answer → Accepts (accepted_of r.body) answer
+      → ChecksText most_bytes rounds t (report_text r) answer → Accepts (accepted_of r.body) answer
   accepts_text rounds answer asked grammar few (Ok read, is, next) =
       let known : report_of 2 (report_text r) ≡ Ok r = written_read r grammar in
       let same : read ≡ r = cc in
@@ -44,6 +44,7 @@ module _ (t : Task) (r : Report) (faultless : IsFaultless t r) where
   accepts_text rounds answer asked grammar few (Err (run.Cert (amiss.Syntax k)), is, next) =
       let known : report_of 2 (report_text r) ≡ Ok r = written_read r grammar in
       absurd (let bad : ⊥ = cc in bad)
-  accepts_text rounds answer asked grammar few (Err run.TooLong, is, next) = absurd (omega (arith, few, is))
+  accepts_text rounds answer asked grammar few (Err run.TooLong, inl is, next) = absurd (omega (arith, few, is))
+  accepts_text rounds answer asked grammar few (Err run.TooLong, inr is, next) = absurd (let lines = few_lines (report_text r) in omega (arith, few, is, lines))
   accepts_text rounds answer asked grammar few (Err run.OutOfMemory, is, next) = subst (Accepts (accepted_of r.body)) (sym next) tt
   accepts_text rounds answer asked grammar few (Err e, is, next) = absurd is

@@ -51,7 +51,7 @@ report_alone rounds t (Err e) made n w = (sym (ap (by_result failed_reads) n), a
 report_counted : (rounds : Option ℕ) (reports reports' : Reading) (t : Result Task RunFault) (made : Made) → NextReads (ReadsToLift rounds) reports reports' t made → by_result failed_writes t ≡ 0
     → IsReportCounted most_bytes reports reports' t made
 report_counted rounds reports reports' (Ok t) made (r, (text, (given, gave, is), j), n) w =
-    let a = judged_report text r j in
+    let a = judged_report most_bytes text r j in
     let b = report_alone rounds t r made n a.1 in
     let bound = few most_bytes given reports'.left text is in
     record {

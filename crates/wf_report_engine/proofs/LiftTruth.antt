@@ -1,5 +1,6 @@
 -- What is lifted is a decision map, and its report is accepted.
 use Rattle.std.proofs.Common.{◌≡◌, ◌≤◌, ℕ, ◌+◌, ◌-◌, List, Option, Some, Result, Ok, Err, inl, inr, refl, sym, subst, arith}
+use Rattle.wf_model.specs.Limits.{most_bytes}
 use Rattle.wf_model.specs.Task.{Task}
 use Rattle.wf_model.specs.View.{View}
 use Rattle.wf_model.specs.DecisionMap.{IsDecisionMap, listed}
@@ -56,13 +57,13 @@ module _ (rounds : Option ℕ) (task task' reports reports' : Reading) (sink sin
   of_body t r (least m ls) given no_fewer lifts = of_map t r (least m ls) given no_fewer lifts
   of_body t r (none ls) given no_fewer lifts = absurd (let bad : ⊥ = cc in bad)
 
-  of_checked : (t : Task) (r : Report) → GaveTask task task' t → Reads IsReportOf reports reports' (Ok r) → r.rounds ≤ rounds_asked rounds r.rounds
+  of_checked : (t : Task) (r : Report) → GaveTask task task' t → Reads (IsReportOf most_bytes) reports reports' (Ok r) → r.rounds ≤ rounds_asked rounds r.rounds
       → (built : Result Built RunFault) → Judges t r built → Next (λ b. LiftsBody t r.rounds (rounds_asked rounds r.rounds) r.body) built (Ok (tt, text)) → Done t r.rounds
   of_checked t r gave reads no_fewer (Ok b) judges next =
       of_body t r.rounds r.body (record { task_given = gave; report_given = gave_report reports reports' t r reads judges.0; holds = judges.0.holds }) no_fewer next
   of_checked t r gave reads no_fewer (Err e) judges next = absurd (let bad : ⊥ = cc in bad)
 
-  of_report : (t : Task) (r : Result Report RunFault) → GaveTask task task' t → Reads IsReportOf reports reports' r → Next (LiftsFor rounds t) r (Ok (tt, text))
+  of_report : (t : Task) (r : Result Report RunFault) → GaveTask task task' t → Reads (IsReportOf most_bytes) reports reports' r → Next (LiftsFor rounds t) r (Ok (tt, text))
       → (r : ℕ) × Done t r
   of_report t (Ok r) gave reads (inl (no_fewer, (built, judges, next))) = (r.rounds, of_checked t r gave reads no_fewer built judges next)
   of_report t (Ok r) gave reads (inr (fewer, refused)) = absurd (let bad : ⊥ = cc in bad)

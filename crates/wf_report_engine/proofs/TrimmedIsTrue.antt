@@ -44,7 +44,7 @@ pub record IsTold (made : Task → Report → List ℕ) (task task' reports repo
   pub wrote : Wrote sink sink' (made t shorter)
 
 module _ (made : Task → Report → List ℕ) (task task' reports reports' : Reading) (sink sink' : Writing) where
-  of_text : (text : Result (List ℕ) ReadFault) (t : Task) (r shorter : Report) → GaveTask task task' t → ReadsText most_bytes reports reports' text → Judged IsReportOf text (Ok r)
+  of_text : (text : Result (List ℕ) ReadFault) (t : Task) (r shorter : Report) → GaveTask task task' t → ReadsText most_bytes reports reports' text → Judged (IsReportOf most_bytes) text (Ok r)
       → IsFaultless t r → IsShortened t r shorter → Wrote sink sink' (made t shorter) → IsTold made task task' reports reports' sink sink'
   of_text (Ok text) t r shorter gave (given, gives, is) judged faultless shortened wrote =
       let known : IsTextOf r text = read_written text r judged in
@@ -63,7 +63,7 @@ module _ (made : Task → Report → List ℕ) (task task' reports reports' : Re
       }
   of_text (Err e) t r shorter gave reads judged faultless shortened wrote = absurd (let bad : ⊥ = cc in bad)
 
-  of_report : (text : List ℕ) (t : Task) (r : Result Report RunFault) → GaveTask task task' t → Reads IsReportOf reports reports' r
+  of_report : (text : List ℕ) (t : Task) (r : Result Report RunFault) → GaveTask task task' t → Reads (IsReportOf most_bytes) reports reports' r
       → Next (IsVerifiedFor None (AreMade made) t) r (Ok (tt, text)) → Wrote sink sink' text → IsTold made task task' reports reports' sink sink'
   of_report text t (Ok r) gave (read, reads, judged) (faultless, (shorter, shortened, is)) wrote =
       of_text read t r shorter gave reads judged faultless shortened (subst (λ x. Wrote sink sink' x) is wrote)

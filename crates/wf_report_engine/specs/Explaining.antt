@@ -38,7 +38,7 @@ AreExplained = AreMade (λ t r. body_explained t r.rounds r.body)
 
 -- the text is read as a report, which is checked and told
 abbrev pub ExplainsReport : Task → List ℕ → Result (Unit {0} × List ℕ) RunFault → Type 0
-ExplainsReport t text result = (r : Result Report RunFault) × IsReportOf text r × Next (IsVerified AreExplained t) r result
+ExplainsReport t text result = (r : Result Report RunFault) × IsReportOf most_bytes text r × Next (IsVerified AreExplained t) r result
 
 -- an obstruction that is accepted is told; or it is refused
 abbrev pub TellsObstruction : Task → Obstruction → Result (Unit {0} × List ℕ) RunFault → Type 0

@@ -1,5 +1,6 @@
 -- A run over two sources, a task and a report about it, whose map is lifted to more rounds.
 use Rattle.std.specs.Prelude.{◌≡◌, ◌<◌, ◌≤◌, ◌⊎◌, ℕ, ◌+◌, ◌-◌, List, Option, Some, None, Result, Ok, Err}
+use Rattle.wf_model.specs.Limits.{most_bytes}
 use Rattle.wf_model.specs.Task.{Task}
 use Rattle.wf_model.specs.View.{View}
 use Rattle.wf_model.specs.DecisionMap.{IsDecisionMap, listed}
@@ -51,7 +52,7 @@ LiftsFor rounds t r made =
 -- the report is read
 abbrev pub ReadsToLift : Option ℕ → Task → Reading → Reading → Made → Type 0
 ReadsToLift rounds t old new made =
-    (r : Result Report RunFault) × Reads IsReportOf old new r × Next (LiftsFor rounds t) r made
+    (r : Result Report RunFault) × Reads (IsReportOf most_bytes) old new r × Next (LiftsFor rounds t) r made
 
 -- the task is read before that
 abbrev pub AsksLift : Option ℕ → Reading → Reading → Reading → Reading → Made → Type 0

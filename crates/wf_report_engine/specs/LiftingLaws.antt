@@ -46,7 +46,7 @@ LiftsAreAccepted =
     → Lifts rounds task task' reports reports' sink sink' (Ok tt)
     → (t : Task) × (r : ℕ) × (body : Body) × (text : List ℕ) × GaveTruth task task' reports reports' t r body × Wrote sink sink' text
     × (length text ≤ most_bytes → (answer : Result (Accepted × List ℕ) RunFault)
-    → ChecksText (Some (rounds_asked rounds r)) t text answer → Accepts accepted.Map answer)
+    → ChecksText most_bytes (Some (rounds_asked rounds r)) t text answer → Accepts accepted.Map answer)
 
 -- at most one byte more than a text may have is taken of each source, failed calls are told, and
 -- nothing is written at a refusal

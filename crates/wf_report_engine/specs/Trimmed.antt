@@ -19,7 +19,7 @@ use Rattle.wf_report_engine.specs.Trimming.{IsShorter, Trims}
 -- answer is accepted, or memory ran out
 abbrev pub IsAcceptedText : Task → ℕ → Body → List ℕ → Type 0
 IsAcceptedText t r body text =
-    (rounds : Option ℕ) (answer : Result (Accepted × List ℕ) RunFault) → AreAsked rounds r → ChecksText rounds t text answer → Accepts (accepted_of body) answer
+    (rounds : Option ℕ) (answer : Result (Accepted × List ℕ) RunFault) → AreAsked rounds r → ChecksText most_bytes rounds t text answer → Accepts (accepted_of body) answer
 
 -- The text of the report with this answer about a task and its r rounds: it is true, has at most as
 -- many bytes as a text may have, is read as that report, and a check of it accepts it.

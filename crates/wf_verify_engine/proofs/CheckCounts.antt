@@ -11,22 +11,18 @@ use Rattle.wf_run.specs.declared.fault.RunFault.{RunFault}
 use Rattle.wf_run.specs.declared.fault.RunFault.TheVariants as run
 use Rattle.wf_run.specs.Run.{Next, Judged, Ran, failed_reads, failed_writes, by_result}
 use Rattle.wf_run.specs.Laws.{IsChecked}
-use Rattle.wf_verify_engine.specs.Verify.{IsReportOf, IsVerified, IsVerifiedFor, Checks, ChecksAfter, ChecksBoth, ReadsUpTo}
+use Rattle.wf_verify_engine.specs.Verify.{IsReportOf, IsVerified, IsVerifiedFor, Checks, ChecksAfter, ChecksBoth}
 use Rattle.wf_run.proofs.Lemmas.{beyond, few, IsReportCounted, left_alone, both_counted}
 
--- where no text is judged to be a read or a write that failed, reading fails what the text fails
-module _ (IsReport : List ℕ → Result Report RunFault → Type 0) (no_read : (text : List ℕ) → IsReport text (Err run.Read) → ⊥) (no_write : (text : List ℕ) → IsReport text (Err run.Write) → ⊥) where
-  judged_as : (text : Result (List ℕ) ReadFault) (r : Result Report RunFault) → Judged IsReport text r → (io.failed_reads text ≡ by_result failed_reads r) × (by_result failed_writes r ≡ 0)
-  judged_as (Ok text) (Ok r) j = (refl, refl)
-  judged_as (Ok text) (Err run.Read) j = absurd (no_read text j)
-  judged_as (Ok text) (Err run.Write) j = absurd (no_write text j)
-  judged_as (Ok text) (Err e) j = (refl, refl)
-  judged_as (Err read.TooLong) r j = (sym (ap (by_result failed_reads) j), ap (by_result failed_writes) j)
-  judged_as (Err read.OutOfMemory) r j = (sym (ap (by_result failed_reads) j), ap (by_result failed_writes) j)
-  judged_as (Err read.Read) r j = (sym (ap (by_result failed_reads) j), ap (by_result failed_writes) j)
-
-pub judged_report : (text : Result (List ℕ) ReadFault) (r : Result Report RunFault) → Judged IsReportOf text r → (io.failed_reads text ≡ by_result failed_reads r) × (by_result failed_writes r ≡ 0)
-judged_report text r j = judged_as IsReportOf (λ text j. j) (λ text j. j) text r j
+-- reading fails what the text fails
+pub judged_report : (most : ℕ) (text : Result (List ℕ) ReadFault) (r : Result Report RunFault) → Judged (IsReportOf most) text r → (io.failed_reads text ≡ by_result failed_reads r) × (by_result failed_writes r ≡ 0)
+judged_report most (Ok text) (Ok r) j = (refl, refl)
+judged_report most (Ok text) (Err run.Read) j = absurd j
+judged_report most (Ok text) (Err run.Write) j = absurd j
+judged_report most (Ok text) (Err e) j = (refl, refl)
+judged_report most (Err read.TooLong) r j = (sym (ap (by_result failed_reads) j), ap (by_result failed_writes) j)
+judged_report most (Err read.OutOfMemory) r j = (sym (ap (by_result failed_reads) j), ap (by_result failed_writes) j)
+judged_report most (Err read.Read) r j = (sym (ap (by_result failed_reads) j), ap (by_result failed_writes) j)
 
 -- a check fails no call
 pub checks_alone : {X : Type 0} (is_text : Task → Report → X → List ℕ → Type 0) (t : Task) (r : Report) (answer : Result (X × List ℕ) RunFault) → IsVerified is_text t r answer
@@ -42,11 +38,11 @@ verified (Some rounds) is_text t (Ok r) answer (inl (same, n)) w = checks_alone 
 verified (Some rounds) is_text t (Ok r) answer (inr (other, is)) w = (sym (ap (by_result failed_reads) is), ap (by_result failed_writes) is)
 verified rounds is_text t (Err e) answer n w = (sym (ap (by_result failed_reads) n), ap (by_result failed_writes) n ∙ w)
 
-module _ {X : Type 0} (most : ℕ) (IsReport : List ℕ → Result Report RunFault → Type 0) (no_read : (text : List ℕ) → IsReport text (Err run.Read) → ⊥) (no_write : (text : List ℕ) → IsReport text (Err run.Write) → ⊥) (rounds : Option ℕ) (is_text : Task → Report → X → List ℕ → Type 0) where
-  report_counted : (reports reports' : Reading) (t : Result Task RunFault) (answer : Result (X × List ℕ) RunFault) → ChecksAfter (ReadsUpTo most IsReport) rounds is_text reports reports' t answer → by_result failed_writes t ≡ 0
+module _ {X : Type 0} (most : ℕ) (rounds : Option ℕ) (is_text : Task → Report → X → List ℕ → Type 0) where
+  report_counted : (reports reports' : Reading) (t : Result Task RunFault) (answer : Result (X × List ℕ) RunFault) → ChecksAfter most rounds is_text reports reports' t answer → by_result failed_writes t ≡ 0
       → IsReportCounted most reports reports' t answer
   report_counted reports reports' (Ok t) answer (r, (text, (given, gave, is), j), n) w =
-      let a = judged_as IsReport no_read no_write text r j in
+      let a = judged_report most text r j in
       let b = verified rounds is_text t r answer n a.1 in
       let bound = few most given reports'.left text is in
       record {
@@ -58,13 +54,13 @@ module _ {X : Type 0} (most : ℕ) (IsReport : List ℕ → Result Report RunFau
       }
   report_counted reports reports' (Err e) answer (is, same) w = left_alone most reports reports' e answer is same w
 
-  -- a run over a task and a report that is read so
+  -- a run over a task and a report of at most so many bytes
   pub both_checked : (task task' reports reports' : Reading) (sink sink' : Writing) (result : Result X RunFault)
-      → Ran (ChecksBoth (ReadsUpTo most IsReport) rounds is_text task task' reports reports') sink sink' result → IsChecked most task task' reports reports' sink sink' result
+      → Ran (ChecksBoth most rounds is_text task task' reports reports') sink sink' result → IsChecked most task task' reports reports' sink sink' result
   both_checked task task' reports reports' sink sink' result (answer, (t, reads, checks), h) =
       both_counted most task task' reports reports' sink sink' t answer result reads (report_counted reports reports' t answer checks) h
 
--- a run over a task and a report that is read whole
+-- a run over a task and a report that is kept whole
 pub checked : {X : Type 0} (rounds : Option ℕ) (is_text : Task → Report → X → List ℕ → Type 0) (task task' reports reports' : Reading) (sink sink' : Writing) (result : Result X RunFault)
     → Ran (Checks rounds is_text task task' reports reports') sink sink' result → IsChecked most_bytes task task' reports reports' sink sink' result
-checked rounds is_text = both_checked most_bytes IsReportOf (λ text j. j) (λ text j. j) rounds is_text
+checked rounds is_text = both_checked most_bytes rounds is_text

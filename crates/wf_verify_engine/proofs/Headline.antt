@@ -11,7 +11,7 @@ use Rattle.wf_report.proofs.Lemmas.{read_written}
 use Rattle.wf_run.specs.declared.fault.RunFault.{RunFault}
 use Rattle.wf_run.specs.Run.{Hands, IsTaskOf, Judged, Next, Reads}
 use Rattle.wf_run.specs.Texts.{text_of_report}
-use Rattle.wf_verify_engine.specs.Verify.{AreDecisions, ChecksAfter, ChecksBoth, IsAccepted, IsFaultless, IsReportOf, IsVerified, IsVerifiedFor, ReadsUpTo}
+use Rattle.wf_verify_engine.specs.Verify.{AreDecisions, ChecksAfter, ChecksBoth, IsAccepted, IsFaultless, IsReportOf, IsVerified, IsVerifiedFor, ReadsReport}
 use Rattle.wf_verify_engine.specs.Headline.{AcceptancesAreTrue, AreAsked, DecisionsAreTrue, GaveTruth}
 use Rattle.wf_run.specs.Given.{GaveTask}
 use Rattle.wf_run.proofs.Lemmas.{task_read}
@@ -38,15 +38,15 @@ pub record IsTold {X : Type 0} (rounds : Option ℕ) (is_text : Task → Report 
   pub is : is_text t r x text
   pub wrote : Wrote sink sink' text
 
--- a report that is read so, where what is judged to be a report is the report of its text
-module _ {X : Type 0} (most : ℕ) (IsReport : List ℕ → Result Report RunFault → Type 0) (is_report : (text : List ℕ) (r : Report) → IsReport text (Ok r) → report_of 2 text ≡ Ok r) (rounds : Option ℕ) (is_text : Task → Report → X → List ℕ → Type 0) (task task' reports reports' : Reading) (sink sink' : Writing) (x : X) where
-  report_read : (text : Result (List ℕ) ReadFault) (t : Task) (r : Report) → ReadsText most reports reports' text → Judged IsReport text (Ok r) → IsFaultless t r
+-- a report of at most so many bytes
+module _ {X : Type 0} (most : ℕ) (rounds : Option ℕ) (is_text : Task → Report → X → List ℕ → Type 0) (task task' reports reports' : Reading) (sink sink' : Writing) (x : X) where
+  report_read : (text : Result (List ℕ) ReadFault) (t : Task) (r : Report) → ReadsText most reports reports' text → Judged (IsReportOf most) text (Ok r) → IsFaultless t r
       → Gave reports reports' (text_of_report t r.rounds r.body) 0
   report_read (Ok text) t r (given, gave, is) judged faultless =
-      subst (λ x. Gave reports reports' x 0) (written_as_read given t r (ap (report_of 2) (sym is.0) ∙ is_report text r judged) faultless) gave
+      subst (λ x. Gave reports reports' x 0) (written_as_read given t r (ap (report_of 2) (sym is.0) ∙ judged) faultless) gave
   report_read (Err e) t r reads judged faultless = absurd (let bad : ⊥ = cc in bad)
 
-  of_verified : (text : List ℕ) (t : Task) (r : Report) → GaveTask task task' t → ReadsUpTo most IsReport reports reports' (Ok r)
+  of_verified : (text : List ℕ) (t : Task) (r : Report) → GaveTask task task' t → ReadsReport most reports reports' (Ok r)
       → AreAsked rounds r.rounds → IsVerified is_text t r (Ok (x, text)) → Wrote sink sink' text → IsTold rounds is_text task task' reports reports' sink sink' x
   of_verified text t r gave (read, reads, judged) asked next wrote = record {
     t = t;
@@ -58,32 +58,32 @@ module _ {X : Type 0} (most : ℕ) (IsReport : List ℕ → Result Report RunFau
     wrote = wrote;
   }
 
-  of_rounds : (k : Option ℕ) (same : k ≡ rounds) (text : List ℕ) (t : Task) (r : Report) → GaveTask task task' t → ReadsUpTo most IsReport reports reports' (Ok r)
+  of_rounds : (k : Option ℕ) (same : k ≡ rounds) (text : List ℕ) (t : Task) (r : Report) → GaveTask task task' t → ReadsReport most reports reports' (Ok r)
       → IsVerifiedFor k is_text t r (Ok (x, text)) → Wrote sink sink' text → IsTold rounds is_text task task' reports reports' sink sink' x
   of_rounds None same text t r gave reads next wrote = of_verified text t r gave reads (subst (λ o. AreAsked o r.rounds) same tt) next wrote
   of_rounds (Some n) same text t r gave reads (inl (asked, next)) wrote = of_verified text t r gave reads (subst (λ o. AreAsked o r.rounds) same asked) next wrote
   of_rounds (Some n) same text t r gave reads (inr (other, refused)) wrote = absurd (let bad : ⊥ = cc in bad)
 
-  of_report : (text : List ℕ) (t : Task) (r : Result Report RunFault) → GaveTask task task' t → ReadsUpTo most IsReport reports reports' r
+  of_report : (text : List ℕ) (t : Task) (r : Result Report RunFault) → GaveTask task task' t → ReadsReport most reports reports' r
       → Next (IsVerifiedFor rounds is_text t) r (Ok (x, text)) → Wrote sink sink' text → IsTold rounds is_text task task' reports reports' sink sink' x
   of_report text t (Ok r) gave reads next wrote = of_rounds rounds refl text t r gave reads next wrote
   of_report text t (Err e) gave reads next wrote = absurd (let bad : ⊥ = cc in bad)
 
-  of_both : (text : List ℕ) (t : Result Task RunFault) → Reads IsTaskOf task task' t → ChecksAfter (ReadsUpTo most IsReport) rounds is_text reports reports' t (Ok (x, text)) → Wrote sink sink' text
+  of_both : (text : List ℕ) (t : Result Task RunFault) → Reads IsTaskOf task task' t → ChecksAfter most rounds is_text reports reports' t (Ok (x, text)) → Wrote sink sink' text
       → IsTold rounds is_text task task' reports reports' sink sink' x
   of_both text (Ok t) (read, reads, judged) (r, report, next) wrote = of_report text t r (task_read task task' read t reads judged) report next wrote
   of_both text (Err e) reads checks wrote = absurd (let bad : ⊥ = cc in bad)
 
-  pub of_check : (answer : Result (X × List ℕ) RunFault) → ChecksBoth (ReadsUpTo most IsReport) rounds is_text task task' reports reports' answer → Hands sink sink' answer (Ok x) → IsTold rounds is_text task task' reports reports' sink sink' x
-  of_check (Ok (y, text)) (t, reads, checks) (same, wrote) = of_both text t reads (subst (λ z. ChecksAfter (ReadsUpTo most IsReport) rounds is_text reports reports' t (Ok (z, text))) (sym same) checks) wrote
+  pub of_check : (answer : Result (X × List ℕ) RunFault) → ChecksBoth most rounds is_text task task' reports reports' answer → Hands sink sink' answer (Ok x) → IsTold rounds is_text task task' reports reports' sink sink' x
+  of_check (Ok (y, text)) (t, reads, checks) (same, wrote) = of_both text t reads (subst (λ z. ChecksAfter most rounds is_text reports reports' t (Ok (z, text))) (sym same) checks) wrote
   of_check (Err e) checks hands = absurd (let bad : ⊥ = cc in bad)
 
 pub acceptances_true : AcceptancesAreTrue
-acceptances_true rounds task task' reports reports' sink sink' accepted (answer, checks, hands) =
-    let told = of_check most_bytes IsReportOf (λ text r j. j) rounds (IsAccepted rounds) task task' reports reports' sink sink' accepted answer checks hands in
+acceptances_true most rounds task task' reports reports' sink sink' accepted (answer, checks, hands) =
+    let told = of_check most rounds (IsAccepted rounds) task task' reports reports' sink sink' accepted answer checks hands in
     (told.t, told.r.rounds, told.r.body, told.truth, told.asked, told.is.0, subst (λ text. Wrote sink sink' text) told.is.1 told.wrote)
 
 pub decisions_true : DecisionsAreTrue
 decisions_true task task' reports reports' sink sink' (answer, checks, hands) =
-    let told = of_check most_bytes IsReportOf (λ text r j. j) None AreDecisions task task' reports reports' sink sink' tt answer checks hands in
+    let told = of_check most_bytes None AreDecisions task task' reports reports' sink sink' tt answer checks hands in
     (told.t, told.r.rounds, told.r.body, told.truth, subst (λ text. Wrote sink sink' text) told.is told.wrote)

@@ -1,4 +1,7 @@
 pub mod Lemmas
+pub mod AheadReports
+pub mod AheadTexts
+pub mod Peeked
 pub mod CheckCounts
 pub mod ProofBytes
 pub mod ProofsToLines

@@ -1,9 +1,9 @@
 -- The text of a report without a fault is accepted.
-use Rattle.std.proofs.Common.{◌≡◌, ◌≤◌, ℕ, List, length, inl, inr, Option, Some, None, Result, Ok, Err, refl, sym, subst, arith}
+use Rattle.std.proofs.Common.{◌≡◌, ◌≤◌, ◌==◌, ℕ, suc, Bool, true, false, cond, List, [], ◌∷◌, length, inl, inr, Option, Some, None, Result, Ok, Err, refl, sym, subst, arith}
 use Rattle.wf_model.specs.Task.{Task, IsTask}
 use Rattle.wf_model.specs.View.{View}
 use Rattle.wf_model.specs.DecisionMap.{IsDecisionMap, listed}
-use Rattle.wf_model.specs.Report.{Report, Body, a_map, report_of, report_text, report_about}
+use Rattle.wf_model.specs.Report.{Report, Body, a_map, lines_of, onto_first, report_of, report_text, report_about}
 use Rattle.wf_model.specs.Check.{Refusal, report_fault}
 use Rattle.wf_model.proofs.Lemmas.{map_accepted}
 use Rattle.wf_model.specs.Limits.{most_bytes}
@@ -23,6 +23,19 @@ use Rattle.wf_verify_engine.specs.Verify.{ChecksText, IsAccepted, IsVerified, Is
 use Rattle.wf_verify_engine.specs.Headline.{AreAsked}
 use Rattle.wf_verify_engine.specs.Laws.{Accepts}
 use Rattle.wf_verify_engine.proofs.WrittenReports.{map_within}
+
+-- a text has no more lines than bytes
+pub few_lines : (text : List ℕ) → length (lines_of text) ≤ length text
+few_lines [] = omega arith
+few_lines (b ∷ text) = by_first (b == 10) (lines_of text) (few_lines text)
+  where
+    by_lines : (ls : List (List ℕ)) → length ls ≤ length text → length (onto_first b ls) ≤ suc (length text)
+    by_lines [] few = omega arith
+    by_lines (l ∷ ls) few = omega (arith, few)
+
+    by_first : (t : Bool) (ls : List (List ℕ)) → length ls ≤ length text → length (cond t ((b ∷ []) ∷ ls) (onto_first b ls)) ≤ suc (length text)
+    by_first true ls few = omega (arith, few)
+    by_first false ls few = by_lines ls few
 
 -- a report without a fault has none that is named
 unnamed : {P : Type 0} (found : Option Refusal) (f : Refusal) → found ≡ None → found ≡ Some f → P
@@ -66,7 +79,7 @@ faultless_for (Some rounds) t report answer asked within clear (inr (other, is))
 
 -- the answer about the text of such a report
 text_accepted : (rounds : Option ℕ) (t : Task) (report : Report) (answer : Result (Accepted × List ℕ) RunFault) → AreAsked rounds report.rounds → IsInGrammar report → length (report_text report) ≤ most_bytes → HasComplex t report.rounds
-    → report_fault t report.rounds report ≡ None → ChecksText rounds t (report_text report) answer → Accepts (accepted_of report.body) answer
+    → report_fault t report.rounds report ≡ None → ChecksText most_bytes rounds t (report_text report) answer → Accepts (accepted_of report.body) answer
 text_accepted rounds t report answer asked grammar short within clear (Ok read, is, next) =
     let known : report_of 2 (report_text report) ≡ Ok report = written_read report grammar in
     let same : read ≡ report = cc in
@@ -74,19 +87,20 @@ text_accepted rounds t report answer asked grammar short within clear (Ok read, 
 text_accepted rounds t report answer asked grammar short within clear (Err (run.Cert (amiss.Syntax k)), is, next) =
     let known : report_of 2 (report_text report) ≡ Ok report = written_read report grammar in
     absurd (let bad : ⊥ = cc in bad)
-text_accepted rounds t report answer asked grammar short within clear (Err run.TooLong, is, next) = absurd (omega (arith, short, is))
+text_accepted rounds t report answer asked grammar short within clear (Err run.TooLong, inl is, next) = absurd (omega (arith, short, is))
+text_accepted rounds t report answer asked grammar short within clear (Err run.TooLong, inr is, next) = absurd (let lines = few_lines (report_text report) in omega (arith, short, is, lines))
 text_accepted rounds t report answer asked grammar short within clear (Err run.OutOfMemory, is, next) = subst (Accepts (accepted_of report.body)) (sym next) tt
 text_accepted rounds t report answer asked grammar short within clear (Err e, is, next) = absurd is
 
 module _ (t : Task) (r : ℕ) where
   -- what is answered about the text of a report with this body
   pub body_accepted : (rounds : Option ℕ) (body : Body) (text : List ℕ) (answer : Result (Accepted × List ℕ) RunFault) → AreAsked rounds r → IsInGrammar (report_about t r body) → HasComplex t r → report_fault t r (report_about t r body) ≡ None
-      → text ≡ text_of_report t r body → length text ≤ most_bytes → ChecksText rounds t text answer → Accepts (accepted_of body) answer
+      → text ≡ text_of_report t r body → length text ≤ most_bytes → ChecksText most_bytes rounds t text answer → Accepts (accepted_of body) answer
   unfolding text_of_report
   body_accepted rounds body text answer asked grammar within clear is short checks =
-      text_accepted rounds t (report_about t r body) answer asked grammar (subst (λ x. length x ≤ most_bytes) is short) within clear (subst (λ x. ChecksText rounds t x answer) is checks)
+      text_accepted rounds t (report_about t r body) answer asked grammar (subst (λ x. length x ≤ most_bytes) is short) within clear (subst (λ x. ChecksText most_bytes rounds t x answer) is checks)
 
   pub map_text_accepted : (rounds : Option ℕ) (m : View → ℕ) (text : List ℕ) (answer : Result (Accepted × List ℕ) RunFault) → AreAsked rounds r → IsTask t → HasComplex t r → IsDecisionMap t r m
-      → text ≡ text_of_report t r (a_map (listed t r m)) → length text ≤ most_bytes → ChecksText rounds t text answer → Accepts accepted.Map answer
+      → text ≡ text_of_report t r (a_map (listed t r m)) → length text ≤ most_bytes → ChecksText most_bytes rounds t text answer → Accepts accepted.Map answer
   map_text_accepted rounds m text answer asked task within decides is short checks =
       body_accepted rounds (a_map (listed t r m)) text answer asked (map_within t r task within m decides) within (map_accepted t r m decides) is short checks

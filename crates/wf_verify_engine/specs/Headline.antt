@@ -33,12 +33,12 @@ abbrev pub AreAsked : Option ℕ → ℕ → Type 0
 AreAsked None r = Unit {0}
 AreAsked (Some rounds) r = r ≡ rounds
 
--- where a check accepts, it was given such a report about the rounds that were asked for, and the
--- sink took the line that says what is accepted of it
+-- where a check of reports of any length accepts, it was given such a report about the rounds that
+-- were asked for, and the sink took the line that says what is accepted of it
 abbrev pub AcceptancesAreTrue : Type 0
 AcceptancesAreTrue =
-    (rounds : Option ℕ) (task task' reports reports' : Reading) (sink sink' : Writing) (accepted : Accepted)
-    → Verifies rounds task task' reports reports' sink sink' (Ok accepted)
+    (most : ℕ) (rounds : Option ℕ) (task task' reports reports' : Reading) (sink sink' : Writing) (accepted : Accepted)
+    → Verifies most rounds task task' reports reports' sink sink' (Ok accepted)
     → (t : Task) × (r : ℕ) × (body : Body) × GaveTruth task task' reports reports' t r body
     × AreAsked rounds r × (accepted ≡ accepted_of body) × Wrote sink sink' (accepted_text rounds body)
 
@@ -85,6 +85,6 @@ HintedRefutationsAreTrue =
 -- rounds no function on the views is a decision map. The sink took the line that says so.
 abbrev pub ObstructionsAreTrue : Type 0
 ObstructionsAreTrue =
-    (rounds : Option ℕ) (task task' source source' : Reading) (sink sink' : Writing)
-    → VerifiesCertificate rounds task task' source source' sink sink' (Ok Obstruction)
+    (most : ℕ) (rounds : Option ℕ) (task task' source source' : Reading) (sink sink' : Writing)
+    → VerifiesCertificate most rounds task task' source source' sink sink' (Ok Obstruction)
     → (t : Task) × GaveTask task task' t × ((r : ℕ) → HasNoDecisionMap t r) × Wrote sink sink' (never_text rounds)

@@ -20,21 +20,22 @@ use Rattle.wf_run.specs.Laws.{IsChecked}
 
 abbrev pub VerifyingIsCounted : Type 0
 VerifyingIsCounted =
-    (rounds : Option ℕ) (task task' reports reports' : Reading) (sink sink' : Writing) (result : Result Accepted RunFault)
-    → Verifies rounds task task' reports reports' sink sink' result → IsChecked most_bytes task task' reports reports' sink sink' result
+    (most : ℕ) (rounds : Option ℕ) (task task' reports reports' : Reading) (sink sink' : Writing) (result : Result Accepted RunFault)
+    → Verifies most rounds task task' reports reports' sink sink' result → IsChecked most task task' reports reports' sink sink' result
 
+-- an obstruction may have most_bytes, whatever a report may have
 abbrev pub VerifyingCertificatesIsCounted : Type 0
 VerifyingCertificatesIsCounted =
-    (rounds : Option ℕ) (task task' source source' : Reading) (sink sink' : Writing) (result : Result Verified RunFault)
-    → VerifiesCertificate rounds task task' source source' sink sink' result → IsChecked most_bytes task task' source source' sink sink' result
+    (most : ℕ) (rounds : Option ℕ) (task task' source source' : Reading) (sink sink' : Writing) (result : Result Verified RunFault)
+    → most_bytes ≤ most → VerifiesCertificate most rounds task task' source source' sink sink' result → IsChecked most task task' source source' sink sink' result
 
 -- A certificate that is accepted as a report is a report that a check accepts. So what is true of
 -- accepted reports is true of it.
 abbrev pub AcceptedReportsAreVerified : Type 0
 AcceptedReportsAreVerified =
-    (rounds : Option ℕ) (task task' source source' : Reading) (sink sink' : Writing) (accepted : Accepted)
-    → VerifiesCertificate rounds task task' source source' sink sink' (Ok (verified.Report accepted))
-    → Verifies rounds task task' source source' sink sink' (Ok accepted)
+    (most : ℕ) (rounds : Option ℕ) (task task' source source' : Reading) (sink sink' : Writing) (accepted : Accepted)
+    → VerifiesCertificate most rounds task task' source source' sink sink' (Ok (verified.Report accepted))
+    → Verifies most rounds task task' source source' sink sink' (Ok accepted)
 
 abbrev pub DecidingIsCounted : Type 0
 DecidingIsCounted =
@@ -69,4 +70,4 @@ ModelsAreAccepted =
     (rounds : ℕ) (task task' output output' : Reading) (sink sink' : Writing)
     → Models rounds task task' output output' sink sink' (Ok tt)
     → (t : Task) × (text : List ℕ) × GaveTask task task' t × Wrote sink sink' text
-    × (length text ≤ most_bytes → (answer : Result (Accepted × List ℕ) RunFault) → ChecksText (Some rounds) t text answer → Accepts accepted.Map answer)
+    × (length text ≤ most_bytes → (answer : Result (Accepted × List ℕ) RunFault) → ChecksText most_bytes (Some rounds) t text answer → Accepts accepted.Map answer)

@@ -2,6 +2,7 @@
 pub mod Headline
 -- What contracts say, here and in the crates above.
 pub mod Verify
+pub mod AsRead
 pub mod Obstructions
 pub mod Certificates
 pub mod Models

@@ -1,8 +1,8 @@
 -- A run over two sources: a task, and a report about it.
-use Rattle.std.specs.Prelude.{◌≡◌, ◌≢◌, ◌<◌, ◌==◌, ◌⊎◌, ℕ, List, [], ◌∷◌, ◌++◌, length, codes, decimal, Option, Some, None, Result, Ok, Err, if◌then◌else◌}
+use Rattle.std.specs.Prelude.{◌≡◌, ◌≢◌, ◌<◌, ◌==◌, ◌⊎◌, ℕ, Bool, List, [], ◌∷◌, ◌++◌, length, codes, decimal, Option, Some, None, Result, Ok, Err, if◌then◌else◌}
 use Rattle.wf_model.specs.Limits.{most_bytes}
 use Rattle.wf_model.specs.Task.{Task}
-use Rattle.wf_model.specs.Report.{Report, Body, a_map, none, least, body_values, report_of}
+use Rattle.wf_model.specs.Report.{Report, Body, a_map, none, least, body_values, lines_of, report_of}
 use Rattle.wf_model.specs.Check.{report_fault}
 use Rattle.wf_model.specs.PointsText.{points_text}
 use Rattle.wf_io.specs.Seen.{Reading, Writing}
@@ -14,6 +14,7 @@ use Rattle.wf_report.specs.Reports.{report_seen}
 use Rattle.wf_check.specs.Faults.{Fails}
 use Rattle.wf_check.specs.Truth.{HoldsOf}
 use Rattle.wf_report.specs.declared.fault.CertFault.TheVariants as amiss
+use Rattle.wf_report.specs.Limits.{most_report_bytes, most_report_lines}
 use Rattle.wf_run.specs.Run.{Judged, Next, Ran, HasComplex, IsBeyondLimits}
 use Rattle.wf_run.specs.Sources.{AsksPair, NextReads}
 use Rattle.wf_verify_engine.specs.declared.outcome.Accepted.{Accepted}
@@ -21,13 +22,22 @@ use Rattle.wf_verify_engine.specs.declared.outcome.Accepted.TheVariants.{Map, No
 use Rattle.wf_run.specs.declared.fault.RunFault.{RunFault}
 use Rattle.wf_run.specs.declared.fault.RunFault.TheVariants.{Cert, OtherRounds, OutOfMemory, TooLong}
 
--- the report of a text, or the number of its first bad line
-abbrev pub IsReportOf : List ℕ → Result Report RunFault → Type 0
-IsReportOf text (Ok r) = report_of 2 text ≡ Ok r
-IsReportOf text (Err (Cert (amiss.Syntax k))) = report_of 2 text ≡ Err k
-IsReportOf text (Err TooLong) = most_bytes < length text
-IsReportOf text (Err OutOfMemory) = Unit {0}
-IsReportOf text (Err e) = ⊥
+-- how many bytes a report may have; a long one may have more than any other text
+abbrev pub most_of : Bool → ℕ
+most_of is_long = if is_long then most_report_bytes else most_bytes
+
+-- the text has more than so many bytes, or more lines than any report; a text of most_bytes has
+-- fewer lines than that
+abbrev pub IsBeyond : ℕ → List ℕ → Type 0
+IsBeyond most text = (most < length text) ⊎ (most_report_lines < length (lines_of text))
+
+-- the report of a text that may have so many bytes, or the number of its first bad line
+abbrev pub IsReportOf : ℕ → List ℕ → Result Report RunFault → Type 0
+IsReportOf most text (Ok r) = report_of 2 text ≡ Ok r
+IsReportOf most text (Err (Cert (amiss.Syntax k))) = report_of 2 text ≡ Err k
+IsReportOf most text (Err TooLong) = IsBeyond most text
+IsReportOf most text (Err OutOfMemory) = Unit {0}
+IsReportOf most text (Err e) = ⊥
 
 -- what is accepted of a report with this answer, and the line that says so
 abbrev pub accepted_of : Body → Accepted
@@ -88,46 +98,42 @@ IsVerifiedFor None is_text t r result = IsVerified is_text t r result
 IsVerifiedFor (Some rounds) is_text t r result =
     ((r.rounds ≡ rounds) × IsVerified is_text t r result) ⊎ ((r.rounds ≢ rounds) × (result ≡ Err OtherRounds))
 
--- the text is read as a report, and that is checked about the task, and for
--- the rounds that are asked for, if any are
-abbrev pub ChecksText : Option ℕ → Task → List ℕ → Result (Accepted × List ℕ) RunFault → Type 0
-ChecksText rounds t text result = (r : Result Report RunFault) × IsReportOf text r × Next (IsVerifiedFor rounds (IsAccepted rounds) t) r result
+-- the text, which may have so many bytes, is read as a report, and that is checked about the task,
+-- and for the rounds that are asked for, if any are
+abbrev pub ChecksText : ℕ → Option ℕ → Task → List ℕ → Result (Accepted × List ℕ) RunFault → Type 0
+ChecksText most rounds t text result = (r : Result Report RunFault) × IsReportOf most text r × Next (IsVerifiedFor rounds (IsAccepted rounds) t) r result
 
--- how a report is read from a source
-abbrev pub ReportReading : Type 1
-ReportReading = Reading → Reading → Result Report RunFault → Type 0
+-- the report of a source's text, which may have so many bytes
+abbrev pub ReadsReport : ℕ → Reading → Reading → Result Report RunFault → Type 0
+ReadsReport most old new result =
+    (text : Result (List ℕ) ReadFault) × ReadsText most old new text × Judged (IsReportOf most) text result
 
--- the source's text has at most so many bytes, and IsReport says which report it is
-abbrev pub ReadsUpTo : ℕ → (List ℕ → Result Report RunFault → Type 0) → ReportReading
-ReadsUpTo most IsReport old new result =
-    (text : Result (List ℕ) ReadFault) × ReadsText most old new text × Judged IsReport text result
-
--- a report is read in this way, and checked about the task, and for the rounds that are asked for,
--- if any are; is_text says which answer and text it has then
-abbrev pub ChecksReport : {X : Type 0} → ReportReading → Option ℕ → (Task → Report → X → List ℕ → Type 0) → Task → Reading → Reading → Result (X × List ℕ) RunFault → Type 0
-ChecksReport ReadsReport rounds is_text t reports reports' result =
-    (r : Result Report RunFault) × ReadsReport reports reports' r × Next (IsVerifiedFor rounds is_text t) r result
+-- a report of at most so many bytes is read, and checked about the task, and for the rounds that
+-- are asked for, if any are; is_text says which answer and text it has then
+abbrev pub ChecksReport : {X : Type 0} → ℕ → Option ℕ → (Task → Report → X → List ℕ → Type 0) → Task → Reading → Reading → Result (X × List ℕ) RunFault → Type 0
+ChecksReport most rounds is_text t reports reports' result =
+    (r : Result Report RunFault) × ReadsReport most reports reports' r × Next (IsVerifiedFor rounds is_text t) r result
 
 -- the report is read where there is a task, and is else left alone
-abbrev pub ChecksAfter : {X : Type 0} → ReportReading → Option ℕ → (Task → Report → X → List ℕ → Type 0) → Reading → Reading → Result Task RunFault → Result (X × List ℕ) RunFault → Type 0
-ChecksAfter ReadsReport rounds is_text reports reports' t result = NextReads (ChecksReport ReadsReport rounds is_text) reports reports' t result
+abbrev pub ChecksAfter : {X : Type 0} → ℕ → Option ℕ → (Task → Report → X → List ℕ → Type 0) → Reading → Reading → Result Task RunFault → Result (X × List ℕ) RunFault → Type 0
+ChecksAfter most rounds is_text reports reports' t result = NextReads (ChecksReport most rounds is_text) reports reports' t result
 
 -- the task is read, and then the report
-abbrev pub ChecksBoth : {X : Type 0} → ReportReading → Option ℕ → (Task → Report → X → List ℕ → Type 0) → Reading → Reading → Reading → Reading → Result (X × List ℕ) RunFault → Type 0
-ChecksBoth ReadsReport rounds is_text task task' reports reports' result =
-    AsksPair (ChecksReport ReadsReport rounds is_text) task task' reports reports' result
+abbrev pub ChecksBoth : {X : Type 0} → ℕ → Option ℕ → (Task → Report → X → List ℕ → Type 0) → Reading → Reading → Reading → Reading → Result (X × List ℕ) RunFault → Type 0
+ChecksBoth most rounds is_text task task' reports reports' result =
+    AsksPair (ChecksReport most rounds is_text) task task' reports reports' result
 
--- the same, if the report is read as a whole
+-- the same, for a report that is kept whole
 abbrev pub ChecksFor : {X : Type 0} → Option ℕ → (Task → Report → X → List ℕ → Type 0) → Reading → Reading → Result Task RunFault → Result (X × List ℕ) RunFault → Type 0
-ChecksFor rounds is_text reports reports' t result = ChecksAfter (ReadsUpTo most_bytes IsReportOf) rounds is_text reports reports' t result
+ChecksFor rounds is_text reports reports' t result = ChecksAfter most_bytes rounds is_text reports reports' t result
 
 abbrev pub Checks : {X : Type 0} → Option ℕ → (Task → Report → X → List ℕ → Type 0) → Reading → Reading → Reading → Reading → Result (X × List ℕ) RunFault → Type 0
-Checks rounds is_text task task' reports reports' result = ChecksBoth (ReadsUpTo most_bytes IsReportOf) rounds is_text task task' reports reports' result
+Checks rounds is_text task task' reports reports' result = ChecksBoth most_bytes rounds is_text task task' reports reports' result
 
--- The report of a source was checked against the task of another one, and what is accepted was
--- written. Where rounds are asked for, the report has to be for these.
-abbrev pub Verifies : Option ℕ → Reading → Reading → Reading → Reading → Writing → Writing → Result Accepted RunFault → Type 0
-Verifies rounds task task' reports reports' sink sink' result = Ran (Checks rounds (IsAccepted rounds) task task' reports reports') sink sink' result
+-- The report of a source, of at most so many bytes, was checked against the task of another one,
+-- and what is accepted was written. Where rounds are asked for, the report has to be for these.
+abbrev pub Verifies : ℕ → Option ℕ → Reading → Reading → Reading → Reading → Writing → Writing → Result Accepted RunFault → Type 0
+Verifies most rounds task task' reports reports' sink sink' result = Ran (ChecksBoth most rounds (IsAccepted rounds) task task' reports reports') sink sink' result
 
 -- the same for any rounds, and what the report's map decides at each point was written
 abbrev pub Decides : Reading → Reading → Reading → Reading → Writing → Writing → Result (Unit {0}) RunFault → Type 0

@@ -1,27 +1,31 @@
 //! Checking a certificate about a task: a report or an obstruction.
 
-ghost use Rattle.std.specs.Prelude.{◌≡◌, ◌≤◌, IfOk, length, string_bytes};
+ghost use Rattle.std.specs.Prelude.{◌≡◌, ◌≤◌, IfOk, OnOk, length, string_bytes};
 ghost use Rattle.std.specs.Thread.{IsSync};
 ghost use Rattle.wf_model.specs.Limits.{most_bytes};
+ghost use Rattle.wf_io.specs.Ends.{CanRead};
+ghost use Rattle.wf_report.specs.Windows.{CanGive};
 ghost use Rattle.wf_tree_text.specs.Seen.{nodes_seen, obstruction_seen};
 ghost use Rattle.wf_tree_text.specs.Text.{lines_of_nodes};
-ghost use Rattle.wf_run.specs.Run.{Reads, answered};
-ghost use Rattle.wf_verify_engine.specs.Certificates.{ChecksCertificate, ChecksObstruction, ChecksReport, JudgesObstruction, as_verified, never_text};
+ghost use Rattle.wf_run.specs.Run.{answered};
+ghost use Rattle.wf_verify_engine.specs.Certificates.{ChecksObstruction, ChecksSource, JudgesObstruction, Peeks, as_verified, never_text};
+ghost use Rattle.wf_verify_engine.specs.Verify.{most_of};
 
+use crate::as_read::{Asked, verify_ahead};
 use crate::obstruction::{judge_obstruction, obstruction_of};
 use crate::outcome::{Accepted, Verified};
-use crate::verify::check_text;
 use std::alloc::{AllocError, Global};
 use std::io::Read;
 use std::thread::Threads;
-use wf_io::{Source, read_all};
+use wf_io::{ReadFault, Source};
+use wf_report::{MOST_REPORT_BYTES, Window};
 use wf_run::{Answered, PairAnswer};
 use wf_task::{LONGEST, Task};
 use wf_tree_text::{Obstruction, is_obstruction_text};
 
 /// What is accepted of a certificate about a task. If the first line says that the certificate is
-/// an obstruction, it is checked as one. Otherwise it is a report, and is checked as
-/// [`run_verify`](crate::run_verify) does.
+/// an obstruction, it is read as a whole and checked as one. Otherwise it is a report, and is
+/// checked while it is read, as [`run_verify`](crate::run_verify) does, but that it may be longer.
 ///
 /// If an obstruction is accepted, no function on the views is a decision map, after any number of
 /// rounds. So an obstruction is accepted for whatever rounds are asked for.
@@ -31,6 +35,8 @@ pub struct AcceptedCertificate<'a, T> {
     pub rt: &'a T,
     /// The rounds that are asked for, if any are.
     pub rounds: Option<u32>,
+    /// Whether a report may have 2^62 bytes, in place of 16,777,216. An obstruction may not.
+    pub is_long: bool,
 }
 
 impl<'a, T: Threads + Sync> PairAnswer for AcceptedCertificate<'a, T> {
@@ -38,7 +44,7 @@ impl<'a, T: Threads + Sync> PairAnswer for AcceptedCertificate<'a, T> {
 
     ghost is_ready = { λ _. IsSync T.row };
 
-    ghost asks = { λ accepted t. Reads (ChecksCertificate accepted.rounds t) };
+    ghost asks = { λ accepted. ChecksSource (most_of accepted.is_long) accepted.rounds };
 
     fn of_pair<C: Read>(
         &self,
@@ -46,39 +52,59 @@ impl<'a, T: Threads + Sync> PairAnswer for AcceptedCertificate<'a, T> {
         task: &Task,
         source: &mut Source<C>,
     ) -> Answered<Verified> {
-        let text = read_all(alloc, source, LONGEST)?;
-        verify_text(self.rt, alloc, task, &text, self.rounds)
+        let asked = Asked {
+            rt: self.rt,
+            alloc,
+            task,
+            rounds: self.rounds,
+        };
+        verify_certificate(&asked, source, self.is_long)
     }
 }
 
-/// What is accepted of a certificate's text about a task, with the text that says so.
-fn verify_text<T: Threads + Sync>(
-    rt: &T,
-    alloc: Global,
-    task: &Task,
-    text: &[u8],
-    rounds: Option<u32>,
+/// What is accepted of a source's certificate, with the text that says so. Its first line decides
+/// what it is; until then it may have no more bytes than an obstruction.
+fn verify_certificate<T: Threads + Sync, C: Read>(
+    asked: &Asked<T>,
+    source: &mut Source<C>,
+    is_long: bool,
 ) -> Answered<Verified>
-    ensures { ChecksCertificate rounds task.now text.now (answered result) }
+    requires { CanRead source.old }
+    ensures { ChecksSource (most_of is_long) asked.now.rounds asked.now.task.now
+        source.old source.new (answered result) }
 {
-    if is_obstruction_text(text) {
-        verify_obstruction(alloc, task, text, rounds)
+    let mut window = Window::new(asked.alloc, LONGEST as u64)?;
+    let is_one = begins_as_obstruction(&mut window, source)?;
+    if is_one {
+        let text = window.read_rest(asked.alloc, source)?;
+        return verify_obstruction(asked.alloc, asked.task, &text, asked.rounds);
+    }
+    window.allow(most_of(is_long));
+    as_verified(verify_ahead(asked, &mut window, source))
+}
+
+/// How many bytes a report may have.
+fn most_of(is_long: bool) -> u64
+    ensures { result ≡ most_of is_long }
+{
+    if is_long {
+        MOST_REPORT_BYTES
     } else {
-        verify_report(rt, alloc, task, text, rounds)
+        LONGEST as u64
     }
 }
 
-/// What is accepted of a report's text about a task, with the text that says so.
-fn verify_report<T: Threads + Sync>(
-    rt: &T,
-    alloc: Global,
-    task: &Task,
-    text: &[u8],
-    rounds: Option<u32>,
-) -> Answered<Verified>
-    ensures { ChecksReport rounds task.now text.now (answered result) }
+/// Whether the text of a window is one of an obstruction. So much is read of it that this is known.
+fn begins_as_obstruction<C: Read>(
+    window: &mut Window,
+    source: &mut Source<C>,
+) -> Result<bool, ReadFault>
+    requires { CanGive source.old window.old }
+    ensures told { Peeks source.old source.new window.old window.new result }
+    ensures can { OnOk result (CanGive source.new window.new) }
 {
-    as_verified(check_text(rt, alloc, task, text, rounds))
+    window.seek(source)?;
+    Ok(is_obstruction_text(window.pending()))
 }
 
 /// What is accepted of a report, as of a certificate.

@@ -19,6 +19,7 @@
 //! alone in `specs/Headline.antt`).
 #![tactic(auto)]
 
+mod as_read;
 mod certificate;
 mod decisions;
 mod format;

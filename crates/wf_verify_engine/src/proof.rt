@@ -3,13 +3,13 @@
 ghost use Rattle.wf_formula.specs.Encoding.{question};
 ghost use Rattle.wf_verify_engine.specs.Proofs.{IsAcceptedNone};
 
+use crate::as_read::accepted_text;
 use crate::format::ProofFormat;
 use crate::listener::ProofListener;
-use crate::verify::accepted_text;
+use crate::outcome::Accepted;
 use std::io::Read;
 use wf_cnf::pose;
 use wf_io::Source;
-use wf_report::Body;
 use wf_run::{Answered, SecondText, TextSubject};
 
 /// The line that no decision map is accepted, if a SAT solver's proof shows it. The second source
@@ -36,11 +36,8 @@ impl<'a, P: ProofFormat, L: ProofListener> SecondText for NoneByProof<'a, P, L> 
         let checker = pose(alloc, subject.task, subject.protocol)?;
         self.format
             .read_from(alloc, source, checker, self.listener)?;
-        let text = accepted_text(
-            alloc,
-            &Body::Nothing(Vec::new(alloc)),
-            Some(subject.protocol.rounds()),
-        )?;
+        let rounds = subject.protocol.rounds();
+        let text = accepted_text(alloc, Accepted::Nothing, Some(rounds))?;
         Ok(((), text.into_bytes()))
     }
 }

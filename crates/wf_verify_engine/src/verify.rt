@@ -1,6 +1,6 @@
 //! Checking a report about a task.
 
-ghost use Rattle.std.specs.Prelude.{◌≡◌, ℕ, IfOk, List, string_bytes};
+ghost use Rattle.std.specs.Prelude.{◌≡◌, ℕ, IfOk, List};
 ghost use Rattle.std.specs.Thread.{IsSync};
 ghost use Rattle.wf_model.specs.Limits.{most_bytes};
 ghost use Rattle.wf_model.specs.Task as tasks;
@@ -9,10 +9,11 @@ ghost use Rattle.wf_io.specs.Ends.{CanRead};
 ghost use Rattle.wf_report.specs.Reports.{AreNumbered, body_length, body_of, report_seen};
 ghost use Rattle.wf_run.specs.Run.{Ran, Reads, answered};
 ghost use Rattle.wf_run.specs.Sources.{CanReadBoth};
-ghost use Rattle.wf_verify_engine.specs.Verify.{Checks, ChecksReport, ChecksText, IsAccepted, IsReportOf, IsVerified, IsVerifiedFor, Judges, ReadsUpTo, Verifies, accepted_text, accepted_words, accepted_of, seen};
+ghost use Rattle.wf_verify_engine.specs.Verify.{Checks, ChecksReport, IsAccepted, IsReportOf, IsVerified, IsVerifiedFor, Judges, Verifies, accepted_words, seen};
 
+use crate::as_read::{Asked, verify_report};
 use crate::outcome::Accepted;
-use std::alloc::{AllocError, Global};
+use std::alloc::Global;
 use std::io::{Read, Write};
 use std::thread::Threads;
 use wf_check::check;
@@ -22,10 +23,10 @@ use wf_report::{Body, Report, read_report};
 use wf_run::{Answered, PairAnswer, RunFault, run_over_pair};
 use wf_task::{LONGEST, Task};
 
-/// Reads a task to its reader's end, then a report about it to its own reader's end, checks the
-/// report on the protocol complex for the report's rounds, and writes what is accepted. Where
-/// rounds are asked for, a report for others is refused before the complex is built, and what is
-/// written tells the rounds.
+/// Reads a task to its reader's end, then a report about it to its own reader's end, and checks the
+/// report while it is read, on the protocol complex for the report's rounds. Writes what is
+/// accepted. Where rounds are asked for, a report for others is refused before the complex is
+/// built, and what is written tells the rounds.
 ///
 /// The relation names the search nowhere: where a map is accepted, it is a decision map, and the
 /// least one where its lines are accepted too; and where none is, no function on the views is one.
@@ -38,11 +39,42 @@ pub fn run_verify<T: Threads + Sync, R: Read, C: Read, W: Write>(
     rounds: Option<u32>,
 ) -> Result<Accepted, RunFault>
     requires { CanReadBoth task_source.old report_source.old sink.old }
-    ensures { Verifies rounds task_source.old task_source.new report_source.old report_source.new
-        sink.old sink.new result }
+    ensures { Verifies most_bytes rounds task_source.old task_source.new
+        report_source.old report_source.new sink.old sink.new result }
 {
-    let acceptance = Acceptance { rt, rounds };
-    run_over_report(alloc, task_source, report_source, sink, rounds, &acceptance)
+    let accepted = AcceptedReport { rt, rounds };
+    run_over_pair(alloc, task_source, report_source, sink, &accepted)
+}
+
+/// What is accepted of a report, which is told with the rounds if these are asked for.
+#[derive(Clone, Copy)]
+struct AcceptedReport<'a, T> {
+    rt: &'a T,
+    rounds: Option<u32>,
+}
+
+impl<'a, T: Threads + Sync> PairAnswer for AcceptedReport<'a, T> {
+    type Answer = Accepted;
+
+    ghost asks = { λ accepted. ChecksReport most_bytes accepted.rounds
+        (IsAccepted accepted.rounds) };
+
+    ghost is_ready = { λ _. IsSync T.row };
+
+    fn of_pair<C: Read>(
+        &self,
+        alloc: Global,
+        task: &Task,
+        source: &mut Source<C>,
+    ) -> Answered<Accepted> {
+        let asked = Asked {
+            rt: self.rt,
+            alloc,
+            task,
+            rounds: self.rounds,
+        };
+        verify_report(&asked, source)
+    }
 }
 
 /// What a run answers about a report that is accepted, beside the text that it writes.
@@ -94,8 +126,7 @@ struct AboutReport<'a, A> {
 impl<'a, A: ReportAnswer> PairAnswer for AboutReport<'a, A> {
     type Answer = A::Answer;
 
-    ghost asks = { λ about. ChecksReport (ReadsUpTo most_bytes IsReportOf) about.rounds
-        (A.is_text about.asked.now) };
+    ghost asks = { λ about. ChecksReport most_bytes about.rounds (A.is_text about.asked.now) };
 
     ghost is_ready = { λ about. A.is_ready about.asked.now };
 
@@ -129,32 +160,11 @@ fn answer_for<A: ReportAnswer>(
     }
 }
 
-/// What is accepted of a report, which is told with the rounds if these are asked for.
-#[derive(Clone, Copy)]
-struct Acceptance<'a, T> {
-    rt: &'a T,
-    rounds: Option<u32>,
-}
-
-impl<'a, T: Threads + Sync> ReportAnswer for Acceptance<'a, T> {
-    ghost is_ready = { λ _. IsSync T.row };
-
-    type Answer = Accepted;
-
-    ghost is_text = { λ acceptance. IsAccepted acceptance.rounds };
-
-    fn of_report(&self, alloc: Global, task: &Task, report: Report) -> Answered<Accepted> {
-        let _protocol = check_report(self.rt, alloc, task, &report)?;
-        let text = accepted_text(alloc, &report.body, self.rounds)?;
-        Ok((accepted_of(&report.body), text.into_bytes()))
-    }
-}
-
 /// Reads a report to its reader's end, as the first step of a run over a report. It is refused
 /// where its text is none: `1 TooLong`, `20 Syntax`, `30 Read`.
 pub fn read_report_from<C: Read>(alloc: Global, source: &mut Source<C>) -> Result<Report, RunFault>
     requires { CanRead source.old }
-    ensures read { Reads IsReportOf source.old source.new (seen result) }
+    ensures read { Reads (IsReportOf most_bytes) source.old source.new (seen result) }
     ensures few { IfOk result (λ report. AreNumbered (body_length report.body)) }
 {
     let text = read_all(alloc, source, LONGEST)?;
@@ -163,24 +173,10 @@ pub fn read_report_from<C: Read>(alloc: Global, source: &mut Source<C>) -> Resul
 
 /// The report of a text. It is refused if its text is none: `1 TooLong`, `20 Syntax`.
 pub fn report_of(alloc: Global, text: &[u8]) -> Result<Report, RunFault>
-    ensures read { IsReportOf text.now (seen result) }
+    ensures read { IsReportOf most_bytes text.now (seen result) }
     ensures few { IfOk result (λ report. AreNumbered (body_length report.body)) }
 {
     Ok(read_report(alloc, text)?)
-}
-
-/// What is accepted of a report's text about a task, with the text that says so.
-pub(crate) fn check_text<T: Threads + Sync>(
-    rt: &T,
-    alloc: Global,
-    task: &Task,
-    text: &[u8],
-    rounds: Option<u32>,
-) -> Answered<Accepted>
-    ensures { ChecksText rounds task.now text.now (answered result) }
-{
-    let report = report_of(alloc, text)?;
-    answer_for(alloc, task, report, rounds, &Acceptance { rt, rounds })
 }
 
 /// The protocol complex for the rounds of a report about a task, where the
@@ -200,17 +196,6 @@ pub fn check_report<T: Threads + Sync>(
     Ok(protocol)
 }
 
-/// What a report with this answer says.
-fn accepted_of(body: &Body) -> Accepted
-    ensures { result ≡ accepted_of (body_of body.now) }
-{
-    match body {
-        Body::Map(_) => Accepted::Map,
-        Body::Nothing(_) => Accepted::Nothing,
-        Body::Least(_, _) => Accepted::Least,
-    }
-}
-
 /// The words that tell that a report with this answer is accepted.
 pub fn accepted_words(body: &Body) -> &'static str
     ensures { result.now ≡ accepted_words (body_of body.now) }
@@ -219,23 +204,5 @@ pub fn accepted_words(body: &Body) -> &'static str
         Body::Map(_) => "accepted map",
         Body::Nothing(_) => "accepted none",
         Body::Least(_, _) => "accepted least",
-    }
-}
-
-/// The line that tells that a report with this answer is accepted, and for
-/// how many rounds, where these were asked for.
-pub(crate) fn accepted_text(
-    alloc: Global,
-    body: &Body,
-    rounds: Option<u32>,
-) -> Result<String, AllocError>
-    ensures { IfOk result
-        (λ text. string_bytes text ≡ accepted_text rounds (body_of body.now)) }
-{
-    let words = accepted_words(body);
-    match rounds {
-        None => format!(in alloc; "{words}\n"),
-        Some(1) => format!(in alloc; "{words} at 1 round\n"),
-        Some(rounds) => format!(in alloc; "{words} at {rounds} rounds\n"),
     }
 }

@@ -32,5 +32,5 @@ returns g c =
     (told (g.P.ProofFormat.is_accepted checker) (IsAcceptedNone t r) (g.P.ProofFormat.is_refused checker) old new c.into_bytes.result.items c.in_ok-read_from.ensures
     (λ given accepted. (
       (unsatisfiable_where t r c.requires.protocol.2.task).0 (g.met.P.ProofFormat.is_sound (question t r) checker given posed accepted),
-      ap (λ v. v.items) c.into_bytes.ensures.value ∙ c.in_ok-text.ensures ∙ ap (λ rounds. accepted_text (Some rounds) (none [])) c.rounds.ensures,
+      ap (λ v. v.items) c.into_bytes.ensures.value ∙ c.in_ok-text.ensures ∙ ap (λ rounds. accepted_text (Some rounds) (none [])) c.rounds-rounds.ensures,
     )))

@@ -1,0 +1,66 @@
+//! Reading the lines of a report that nobody judges.
+
+ghost use Rattle.std.specs.Prelude.{◌≡◌, OnOk, true};
+ghost use Rattle.wf_report.specs.Parts.{AreAny, AreAnyValues, IsAnyBody, ReadsBody, ReadsMap, ReadsSteps};
+ghost use Rattle.wf_report.specs.Windows.{CanGive};
+
+use crate::front::AnswerKind;
+use crate::halt::Halt;
+use crate::lines::{next_step, read_values};
+use crate::reading::Section;
+use crate::window::Window;
+use std::alloc::Global;
+use std::io::Read;
+use wf_io::Source;
+
+/// Reads a body with this answer, and judges none of it.
+pub fn skim_body<C: Read>(
+    alloc: Global,
+    window: &mut Window,
+    source: &mut Source<C>,
+    answer: AnswerKind,
+) -> Result<(), Halt>
+    requires can { CanGive source.old window.old }
+    requires number { window.old.number ≡ 7 }
+    ensures read { ReadsBody answer IsAnyBody source.old source.new window.old window.new result }
+    ensures ended { OnOk result (window.new.ended ≡ true) }
+    ensures can { OnOk result (CanGive source.new window.new) }
+{
+    match answer {
+        AnswerKind::Nothing => skim_steps(window, source, Section::Refutation),
+        AnswerKind::Map => skim_values(alloc, window, source, Section::Values),
+        AnswerKind::Least => skim_values(alloc, window, source, Section::Search),
+    }
+}
+
+/// Reads the values of a map and the lines behind them, and keeps and judges none of them.
+fn skim_values<C: Read>(
+    alloc: Global,
+    window: &mut Window,
+    source: &mut Source<C>,
+    part: Section,
+) -> Result<(), Halt>
+    requires can { CanGive source.old window.old }
+    requires number { window.old.number ≡ 7 }
+    ensures read { ReadsMap part AreAnyValues source.old source.new window.old window.new result }
+    ensures ended { OnOk result (window.new.ended ≡ true) }
+    ensures can { OnOk result (CanGive source.new window.new) }
+{
+    read_values(alloc, window, source, 0)?;
+    skim_steps(window, source, part)
+}
+
+/// Reads the lines up to the end, and judges none of them.
+pub fn skim_steps<C: Read>(
+    window: &mut Window,
+    source: &mut Source<C>,
+    part: Section,
+) -> Result<(), Halt>
+    requires { CanGive source.old window.old }
+    ensures read { ReadsSteps part AreAny source.old source.new window.old window.new result }
+    ensures ended { OnOk result (window.new.ended ≡ true) }
+    ensures can { OnOk result (CanGive source.new window.new) }
+{
+    'steps: while let Some(_) = next_step(window, source, part)? {}
+    Ok(())
+}
