@@ -30,7 +30,7 @@ use wf_run::{Answered, RunFault, hand_out, read_task};
 use wf_task::Task;
 
 /// How branches are handed to workers.
-type Branches = Stealing;
+pub(crate) type Branches = Stealing;
 
 /// Reads a task to the reader's end and writes the report about it for some rounds of iterated
 /// immediate snapshot: its least decision map; or that it has none, with the lines of a refutation,

@@ -4,8 +4,8 @@
 //! out; each worker has a seat at the board, where it sees the least branch that has a map so far,
 //! and a share of the handout. [`solve_root`] searches the whole problem at once, if nobody asks
 //! for an account of branches. All three answer what the canonical search of the whole problem
-//! finds: its least map, or none; and its lines, if such lines are kept. [`solve_branch`] searches
-//! one branch alone.
+//! finds: its least map, or none; and its lines, if such lines are kept. [`solve_within`] is
+//! [`solve_root`] for so many turns. [`solve_branch`] searches one branch alone.
 //!
 //! - `gate`: what a caller may watch and hold of the workers.
 //! - `worker`: a seat, what the worker keeps of what it found, and what
@@ -44,4 +44,6 @@ pub use answer::{Answer, BranchAnswer, KeptLines};
 pub use finding::Inquiry;
 pub use gate::{Gate, Moment, Open};
 pub use laws::{a_problem_has_one_answer, searches_have_most_workers};
-pub use solving::{MAX_WORKERS, solve, solve_branch, solve_one, solve_one_watched, solve_root};
+pub use solving::{
+    MAX_WORKERS, solve, solve_branch, solve_one, solve_one_watched, solve_root, solve_within,
+};

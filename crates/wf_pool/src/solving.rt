@@ -1,6 +1,6 @@
 //! The answer of all workers together.
 
-ghost use Rattle.std.specs.Prelude.{◌≡◌, ◌+◌, ◌*◌, ◌^◌, ◌<◌, ◌≤◌, map, length, All, IfOk, OnOk};
+ghost use Rattle.std.specs.Prelude.{◌≡◌, ◌+◌, ◌*◌, ◌^◌, ◌<◌, ◌≤◌, map, length, All, IfNone, IfOk, IfSome, OnOk};
 ghost use Rattle.wf_model.specs.Limits.{most_workers};
 ghost use Rattle.wf_model.specs.Outline.{boxes_left_out};
 ghost use Rattle.wf_board.specs.Desk.{fresh_desk};
@@ -18,7 +18,7 @@ use crate::crew::{CrewMembers, crew};
 use crate::finding::{Inquiry, search_box};
 use crate::gate::{Gate, Moment, Open};
 use crate::site::SharedState;
-use crate::watch::{TellingStop, settle};
+use crate::watch::{TellingStop, TurnLimit, settle};
 use crate::worker::{Finds, Worker};
 use std::alloc::{AllocError, Global};
 use std::thread::Threads;
@@ -27,7 +27,7 @@ use wf_box::{Box0, KernelCache, Problem};
 use wf_core::Account;
 use wf_handout::Handout;
 use wf_lines::Lines;
-use wf_search::{Cover, Found, Never, split_with};
+use wf_search::{Cover, Found, Never, Stop, split_with};
 
 /// The most workers that [`solve`] takes.
 pub const MAX_WORKERS: u32 = 64;
@@ -139,13 +139,43 @@ pub fn solve_one_watched<G: Gate>(
 pub fn solve_root(alloc: Global, problem: &Problem, kept: KeptLines) -> Result<Answer, AllocError>
     ensures { IfOk result (IsAnswer problem.now kept) }
 {
-    let root = Box0::root(alloc, problem)?;
-    let mut answers = KernelCache::new(alloc);
+    match search_root(alloc, Inquiry { problem, kept }, &mut Never)? {
+        Some(answer) => Ok(answer),
+        None => unreachable!(),
+    }
+}
+
+/// The answer of [`solve_root`], if its search takes so many turns at most, and else none: the
+/// search is dropped then. It starts no thread, and returns. Refused out of memory alone.
+pub fn solve_within(
+    alloc: Global,
+    problem: &Problem,
+    kept: KeptLines,
+    turns: u32,
+) -> Result<Option<Answer>, AllocError>
+    ensures { IfOk result (λ found. IfSome found (IsAnswer problem.now kept)) }
+{
     let inquiry = Inquiry { problem, kept };
-    match search_box(alloc, inquiry, root, &mut Never, &mut answers)? {
-        Found::Map(map, lines) => Ok(Answer::Map(map, lines)),
-        Found::Refuted(lines) => Ok(Answer::Nothing(lines)),
-        Found::Stopped => unreachable!(),
+    let mut limit = TurnLimit { left: turns };
+    search_root(alloc, inquiry, &mut limit)
+}
+
+/// The answer about a problem by one search of its root, or none where that is stopped.
+fn search_root<S: Stop>(
+    alloc: Global,
+    inquiry: Inquiry,
+    stop: &mut S,
+) -> Result<Option<Answer>, AllocError>
+    ensures answer { let q = inquiry.entry in
+        IfOk result (λ found. IfSome found (IsAnswer q.problem.now q.kept)) }
+    ensures stopped { IfOk result (λ found. IfNone found (S.is_stopped stop.new)) }
+{
+    let root = Box0::root(alloc, inquiry.problem)?;
+    let mut answers = KernelCache::new(alloc);
+    match search_box(alloc, inquiry, root, stop, &mut answers)? {
+        Found::Map(map, lines) => Ok(Some(Answer::Map(map, lines))),
+        Found::Refuted(lines) => Ok(Some(Answer::Nothing(lines))),
+        Found::Stopped => Ok(None),
     }
 }
 

@@ -1,6 +1,6 @@
 //! A worker at a branch: it takes a turn only where it sees no lower branch posted.
 
-ghost use Rattle.std.specs.Prelude.{◌≡◌, ◌<◌, IfOk};
+ghost use Rattle.std.specs.Prelude.{◌≡◌, ◌-◌, ◌<◌, IfOk};
 ghost use Rattle.wf_pool.specs.Work.{HasLooked, HasSettled, IsToSettle};
 ghost use Rattle.wf_pool.specs.Sites.{IsWorkerOf};
 ghost use Rattle.wf_pool.specs.Looking.{looked_itself, looked_on};
@@ -70,6 +70,33 @@ impl<'a, G: Gate> Stop for TellingStop<'a, G> {
     ghost unasked = { λ s. refl };
 
     ghost asked_on = { λ m n s t u first second. first ∙ second };
+}
+
+/// A search that may take so many turns more: it stops where none is left.
+#[derive(Drop)]
+pub(crate) struct TurnLimit {
+    pub(crate) left: u32,
+}
+
+impl Stop for TurnLimit {
+    ghost asked = { λ n s t. t.left ≡ s.left - n };
+
+    ghost is_stopped = { λ s. s.left ≡ 0 };
+
+    fn stop(&mut self) -> bool {
+        if self.left == 0 {
+            return true;
+        }
+        self.left -= 1;
+        false
+    }
+
+    ghost use Rattle.wf_pool.specs.Turns.{left_itself, left_on};
+
+    ghost unasked = { λ s. left_itself s.left };
+
+    ghost asked_on = { λ m n s t u first second.
+        left_on m n s.left t.left u.left first second };
 }
 
 /// Settles a branch that the worker has taken. Its search goes by what closing found out in the

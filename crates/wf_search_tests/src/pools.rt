@@ -13,7 +13,9 @@ use wf_core::Account;
 use wf_examples::{AGREEMENT_3_2, CONSENSUS_2, PATH_2};
 use wf_handout::{Counter, Handout, Stealing};
 use wf_lines::{Line, Lines};
-use wf_pool::{Answer, Gate, Inquiry, KeptLines, MAX_WORKERS, Open, solve, solve_one};
+use wf_pool::{
+    Answer, Gate, Inquiry, KeptLines, MAX_WORKERS, Open, solve, solve_one, solve_within,
+};
 
 /// The line of a value that is lost.
 macro_rules! lost {
@@ -128,6 +130,55 @@ fn one_worker_alone(rt: HostRuntime) -> Result<(), Fail> {
             (values, lines, wanted),
             "{task} {kept:?}"
         );
+    }
+    Ok(())
+}
+
+/// The values of a map, if any, and the lines.
+type Parts<'a> = (&'a [u8], &'a [Line]);
+
+/// A task, rounds, the lines that are kept, a number of turns, and what is answered within them. A
+/// turn ends in a line that takes nothing out: `MAP_LINES` has three, and `CONSENSUS_LINES` one.
+static WITHIN: [(&str, u32, KeptLines, u32, Option<Parts<'static>>); 6] = [
+    (PATH_2, 1, KeptLines::All, 3, Some((MAP, MAP_LINES))),
+    (PATH_2, 1, KeptLines::Neither, 4, Some((MAP, &[]))),
+    (PATH_2, 1, KeptLines::All, 2, None),
+    (
+        CONSENSUS_2,
+        0,
+        KeptLines::Refuting,
+        1,
+        Some((&[], CONSENSUS_LINES)),
+    ),
+    (CONSENSUS_2, 0, KeptLines::Neither, 1, Some((&[], &[]))),
+    (CONSENSUS_2, 0, KeptLines::Neither, 0, None),
+];
+
+/// What is answered within so many turns, if anything: the values of a map, if any, and the lines.
+fn run_within(
+    alloc: Global,
+    task: &str,
+    rounds: u32,
+    kept: KeptLines,
+    turns: u32,
+) -> Result<Option<(Vec<u8>, Lines)>, Fail> {
+    let problem = problem_of(alloc, task, rounds)?;
+    match solve_within(alloc, &problem, kept, turns)? {
+        Some(answer) => Ok(Some(parts_of(alloc, answer))),
+        None => Ok(None),
+    }
+}
+
+/// It is given up where it takes a turn more.
+#[test]
+fn a_search_ends_within_its_turns(rt: HostRuntime) -> Result<(), Fail> {
+    for (task, rounds, kept, turns, wanted) in WITHIN {
+        let found = run_within(rt.alloc(), task, rounds, kept, turns)?;
+        let parts = match &found {
+            Some((values, lines)) => Some((values.as_slice(), lines.as_slice())),
+            None => None,
+        };
+        assert_eq!(rt; parts, wanted, "{task} {kept:?} {turns}");
     }
     Ok(())
 }

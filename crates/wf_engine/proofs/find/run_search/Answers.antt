@@ -3,8 +3,8 @@ use Rattle.wf_engine.specs.Texts.{Finds}
 use Rattle.wf_engine.proofs.RunsWithoutAccount.{solving_finds}
 use Rattle.wf_engine.proofs.find.run_search.Goals as goal
 
-pub returns : goal.returns
-returns g c =
+pub returns-then-is_some : goal.returns-then-is_some
+returns-then-is_some g c =
     let ran = c.run_counted_search in
     let wanted = c.args.search.now.wanted in
     subst (Finds wanted.rounds wanted.form c.args.source.now ran.new.source c.args.sink.now ran.new.sink) (sym c.without_account.ensures)
