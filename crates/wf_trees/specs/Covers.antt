@@ -28,7 +28,8 @@ moved c tuple i j sheet = if i == j then sheet else c.move i (value_at tuple i) 
 
 -- by a place in between, or back where k is i
 abbrev pub is_flat_at : Covering → Tuple → ℕ → ℕ → ℕ → ℕ → Bool
-is_flat_at c tuple i j k sheet = nat_lt (moved c tuple i j sheet) c.sheets && (moved c tuple j k (moved c tuple i j sheet) == moved c tuple i k sheet)
+is_flat_at c tuple i j k sheet =
+    nat_lt (moved c tuple i j sheet) c.sheets && (moved c tuple j k (moved c tuple i j sheet) == moved c tuple i k sheet)
 
 abbrev pub all_places : Covering → (ℕ → Bool) → Bool
 all_places c test = list_all test (below (length c.rule.input))
@@ -84,7 +85,8 @@ abbrev pub tuples_covered : Covering → Rule → List Tuple
 tuples_covered c rule =
     if is_corner c rule
     then lifts_on_corner c rule
-    else if is_part rule.input c.rule.input then lifts_on_face c rule else flat_map (choices_of (sheets_of c) (processes_of rule.input)) rule.tuples
+    else if is_part rule.input c.rule.input then lifts_on_face c rule
+        else flat_map (choices_of (sheets_of c) (processes_of rule.input)) rule.tuples
 
 -- the task with values on sheets: on the faces of the simplex as the tuples of the simplex take
 -- sheets to one another, and elsewhere any of them
