@@ -91,11 +91,13 @@ def contains(name, word):
 
 
 def keeping(make):
-    """The same function, which keeps what it made last as long as it is given the very same things again."""
+    """The same function, which keeps what it made last as long as it is given the very same things again, and gives it up before it makes
+    another one, so that memory holds one of both."""
     given, found = [], []
 
     def kept(*things):
         if not found or any(one is not other for one, other in zip(given, things)):
+            found.clear()
             given[:], found[:] = things, [make(*things)]
         return found[0]
 
