@@ -73,7 +73,8 @@ form_of rows = form_asked (has_flag (codes "verdict") rows) (has_flag (codes "le
 -- the search of one branch, of which there is no account
 abbrev pub branch_job : SolveJob → ℕ → Result LoneJob Mistake
 branch_job asked branch =
-    if asked.account then Err (mistake.Beside piece.Branch piece.Account) else Ok (lone.SolveBranch asked.rounds branch asked.form asked.progress)
+    if asked.account then Err (mistake.Beside piece.Branch piece.Account)
+    else Ok (lone.SolveBranch asked.rounds branch asked.form asked.progress)
 
 -- the search of all branches, or of one where it is named
 abbrev pub solve_in : Option ℕ → SolveJob → Result LoneJob Mistake

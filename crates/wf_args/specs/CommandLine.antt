@@ -50,7 +50,8 @@ solve = subcommand (codes "solve")
     ∷ flag_option (codes "account") ∷ flag_option (codes "progress") ∷ branch_option ∷ [])
 
 abbrev pub verify : Shape
-verify = subcommand (codes "verify") (required task_option ∷ number_option (codes "rounds") ∷ branch_option ∷ flag_option (codes "long") ∷ [])
+verify =
+    subcommand (codes "verify") (required task_option ∷ number_option (codes "rounds") ∷ branch_option ∷ flag_option (codes "long") ∷ [])
 
 abbrev pub views : Shape
 views = subcommand (codes "views") (rounds ∷ [])
@@ -97,5 +98,6 @@ preset = subcommand (codes "preset")
 abbrev pub command_line : App
 command_line = record {
   top = record (new_shape (codes "wfcheck")) { is_leaf = false; has_version = true; subcommand_required = true };
-  subs = solve ∷ verify ∷ views ∷ points ∷ branches ∷ join ∷ cnf ∷ model ∷ proof ∷ trim ∷ explain ∷ lift ∷ executions ∷ obstruction ∷ preset ∷ [];
+  subs = solve ∷ verify ∷ views ∷ points ∷ branches ∷ join ∷ cnf ∷ model ∷ proof ∷ trim ∷ explain ∷ lift ∷ executions ∷ obstruction
+      ∷ preset ∷ [];
 }

@@ -16,7 +16,8 @@ task_lines = (codes "solve", codes "the task is read from standard input, as in 
 
 -- the commands that read the task from its file
 abbrev pub filed_lines : List (Text × Text)
-filed_lines = (codes "verify", codes "the report is read from standard input and the task from its file, as in `wfcheck verify --task FILE < REPORT`")
+filed_lines =
+    (codes "verify", codes "the report is read from standard input and the task from its file, as in `wfcheck verify --task FILE < REPORT`")
     ∷ (codes "join", codes "the parts are read from standard input and the task from its file, as in `wfcheck join --task FILE --rounds 1 < PARTS`")
     ∷ (codes "model", codes "the model is read from standard input and the task from its file, as in `wfcheck model --task FILE --rounds 1 < MODEL`")
     ∷ (codes "proof", codes "the proof is read from standard input and the task from its file, as in `wfcheck proof --task FILE --rounds 1 < PROOF`")

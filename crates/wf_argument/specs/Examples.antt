@@ -20,11 +20,13 @@ abbrev reason : ℕ → ℕ → Option ℕ → Reason
 reason v a step = record { point = v; loss = lost a step }
 
 -- values of one process in one execution go in one step
-pub lines_in_steps : parts_of (remove 0 0 1 ∷ remove 0 0 2 ∷ remove 0 1 0 ∷ branch 4 ∷ remove 0 1 1 ∷ empty 3 ∷ []) ≡ takes 0 0 (1 ∷ 2 ∷ []) ∷ takes 0 1 (0 ∷ []) ∷ splits 4 ∷ takes 0 1 (1 ∷ []) ∷ closes 3 ∷ []
+pub lines_in_steps : parts_of (remove 0 0 1 ∷ remove 0 0 2 ∷ remove 0 1 0 ∷ branch 4 ∷ remove 0 1 1 ∷ empty 3 ∷ [])
+    ≡ takes 0 0 (1 ∷ 2 ∷ []) ∷ takes 0 1 (0 ∷ []) ∷ splits 4 ∷ takes 0 1 (1 ∷ []) ∷ closes 3 ∷ []
 lines_in_steps = refl
 
 -- by points; one of another step and one of the case; and values of one step together
-pub reasons_in_words : reasons_text (reason 4 0 (Some 3) ∷ reason 4 2 None ∷ reason 7 1 (Some 12) ∷ reason 7 4 (Some 12) ∷ []) ≡ codes ", but v4 is not 0 [3], 2 in this case, and v7 is not 1 or 4 [12]"
+pub reasons_in_words : reasons_text (reason 4 0 (Some 3) ∷ reason 4 2 None ∷ reason 7 1 (Some 12) ∷ reason 7 4 (Some 12) ∷ [])
+    ≡ codes ", but v4 is not 0 [3], 2 in this case, and v7 is not 1 or 4 [12]"
 unfolding digits
 reasons_in_words = refl
 
@@ -36,10 +38,12 @@ three_points = record { scope = (0, 5) ∷ (1, 3) ∷ (2, 3) ∷ []; tuples = (0
 abbrev two_points_lost : Gone
 two_points_lost = [] ∷ [] ∷ [] ∷ (lost 1 (Some 8) ∷ lost 2 None ∷ []) ∷ [] ∷ (lost 0 (Some 6) ∷ []) ∷ []
 
-pub the_first_that_is_gone : map (first_gone two_points_lost (points_in three_points)) three_points.tuples ≡ Some (reason 5 0 (Some 6)) ∷ Some (reason 5 0 (Some 6)) ∷ Some (reason 5 0 (Some 6)) ∷ Some (reason 3 2 None) ∷ []
+pub the_first_that_is_gone : map (first_gone two_points_lost (points_in three_points)) three_points.tuples
+    ≡ Some (reason 5 0 (Some 6)) ∷ Some (reason 5 0 (Some 6)) ∷ Some (reason 5 0 (Some 6)) ∷ Some (reason 3 2 None) ∷ []
 the_first_that_is_gone = refl
 
-pub each_reason_once : with_reasons two_points_lost (points_in three_points) [] (needed three_points.tuples 2 2) ≡ reason 3 2 None ∷ reason 5 0 (Some 6) ∷ []
+pub each_reason_once : with_reasons two_points_lost (points_in three_points) [] (needed three_points.tuples 2 2)
+    ≡ reason 3 2 None ∷ reason 5 0 (Some 6) ∷ []
 each_reason_once = refl
 
 -- of the values that are left those are told that some tuple has at the place
@@ -55,7 +59,8 @@ gone_once = refl
 abbrev one_point_twice : Constraint
 one_point_twice = record { scope = (0, 0) ∷ (1, 0) ∷ []; tuples = (1 ∷ 0 ∷ []) ∷ [] }
 
-pub taken_in_turn : take_in one_point_twice 4 (0, 0) ([] ∷ []) (0 ∷ 1 ∷ []) ≡ record { gone = (lost 0 (Some 4) ∷ lost 1 (Some 4) ∷ []) ∷ []; reasons = reason 0 0 (Some 4) ∷ [] }
+pub taken_in_turn : take_in one_point_twice 4 (0, 0) ([] ∷ []) (0 ∷ 1 ∷ [])
+    ≡ record { gone = (lost 0 (Some 4) ∷ lost 1 (Some 4) ∷ []) ∷ []; reasons = reason 0 0 (Some 4) ∷ [] }
 taken_in_turn = refl
 
 pub in_two_steps : steps_in one_point_twice 4 (0, 0) ([] ∷ []) (2 ∷ 0 ∷ 1 ∷ 3 ∷ []) ≡ (2 ∷ 0 ∷ []) ∷ (1 ∷ 3 ∷ []) ∷ []
@@ -104,7 +109,8 @@ unfolding digits
 a_line_that_names_nobody = refl
 
 -- an execution counts once, however many lines speak of it
-pub summary_of_two_executions : summary_text false (problem_of consensus 0) (remove 2 0 0 ∷ remove 0 0 1 ∷ remove 2 1 1 ∷ empty 0 ∷ []) ≡ codes "In all: 3 steps over 2 executions of p0 and p1: 1 of one process, 1 of two processes.\n"
+pub summary_of_two_executions : summary_text false (problem_of consensus 0) (remove 2 0 0 ∷ remove 0 0 1 ∷ remove 2 1 1 ∷ empty 0 ∷ [])
+    ≡ codes "In all: 3 steps over 2 executions of p0 and p1: 1 of one process, 1 of two processes.\n"
 unfolding digits
 summary_of_two_executions = refl
 

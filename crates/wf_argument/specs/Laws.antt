@@ -20,11 +20,13 @@ CitesEarlier n x = IsBefore n x.loss.step
 abbrev pub StepsCiteEarlier : Constraint → ℕ × ℕ → State → List (List ℕ) → Type 0
 StepsCiteEarlier k at s [] = ⊤
 StepsCiteEarlier k at s (values ∷ steps) =
-    AllByRecursion (CitesEarlier s.number) (take_in k s.number at s.gone values).reasons × StepsCiteEarlier k at (after_step k at s values) steps
+    AllByRecursion (CitesEarlier s.number) (take_in k s.number at s.gone values).reasons
+    × StepsCiteEarlier k at (after_step k at s values) steps
 
 abbrev pub TakingCitesEarlier : Problem → State → ℕ → List ℕ → Option (ℕ × ℕ) → Type 0
 TakingCitesEarlier p s e values None = ⊤
-TakingCitesEarlier p s e values (Some at) = StepsCiteEarlier (constraint_at p e) at s (steps_in (constraint_at p e) s.number at s.gone values)
+TakingCitesEarlier p s e values (Some at) =
+    StepsCiteEarlier (constraint_at p e) at s (steps_in (constraint_at p e) s.number at s.gone values)
 
 abbrev pub PartCitesEarlier : Problem → State → Part → Type 0
 PartCitesEarlier p s (takes e c values) = TakingCitesEarlier p s e values (place_of 0 c (constraint_at p e).scope)

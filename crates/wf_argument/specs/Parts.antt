@@ -11,7 +11,8 @@ pub data Part : Type 0 where
 -- a value that a process can't decide, and then these parts
 abbrev pub before_parts : ℕ → ℕ → ℕ → List Part → List Part
 before_parts e c a [] = takes e c (a ∷ []) ∷ []
-before_parts e c a (takes f d values ∷ parts) = if (e == f) && (c == d) then takes e c (a ∷ values) ∷ parts else takes e c (a ∷ []) ∷ takes f d values ∷ parts
+before_parts e c a (takes f d values ∷ parts) =
+    if (e == f) && (c == d) then takes e c (a ∷ values) ∷ parts else takes e c (a ∷ []) ∷ takes f d values ∷ parts
 before_parts e c a (closes v ∷ parts) = takes e c (a ∷ []) ∷ closes v ∷ parts
 before_parts e c a (splits v ∷ parts) = takes e c (a ∷ []) ∷ splits v ∷ parts
 

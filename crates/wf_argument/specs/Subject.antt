@@ -52,7 +52,8 @@ pub record IsSeat (x : Subject) (seat : Participant) : Type 0 where
 
 -- what is told where these values are still to be taken
 abbrev pub taking_left : Subject → Participant → State → List ℕ → List ℕ
-taking_left x seat s values = told_taking (problem_in x) (executions_in x) (state_of s) seat.execution values (Some (seat.place, point_at seat))
+taking_left x seat s values =
+    told_taking (problem_in x) (executions_in x) (state_of s) seat.execution values (Some (seat.place, point_at seat))
 
 -- how far the argument is once they are taken
 abbrev pub state_after : Subject → Participant → State → List ℕ → state.State

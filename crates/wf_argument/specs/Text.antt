@@ -60,7 +60,8 @@ step_text n v = decimal n ++ (codes ". " ++ name v)
 
 -- what a step says of the point, and where
 abbrev pub claim_text : ℕ → ℕ → List ℕ → ℕ → List ℕ
-claim_text n v values e = step_text n v ++ (codes " is not " ++ (values_text values ++ (codes ": in execution " ++ (decimal e ++ codes ", "))))
+claim_text n v values e =
+    step_text n v ++ (codes " is not " ++ (values_text values ++ (codes ": in execution " ++ (decimal e ++ codes ", "))))
 
 -- the tuples that would be needed at these points, and why none of them can be decided
 abbrev pub grounds_text : List ℕ → List Tuple → List Reason → List ℕ
@@ -86,7 +87,8 @@ case_text (x ∷ later) = indented x.depth (codes "Case " ++ (name x.point ++ (c
 -- steps one after another, each with the values that it takes
 abbrev pub steps_text : Problem → NamedExecutions → State → ℕ → ℕ × ℕ → List (List ℕ) → List ℕ
 steps_text p es s e at [] = []
-steps_text p es s e at (values ∷ steps) = taking_text p es s e values at ++ steps_text p es (after_step (constraint_at p e) at s values) e at steps
+steps_text p es s e at (values ∷ steps) =
+    taking_text p es s e values at ++ steps_text p es (after_step (constraint_at p e) at s values) e at steps
 
 abbrev pub told_taking : Problem → NamedExecutions → State → ℕ → List ℕ → Option (ℕ × ℕ) → List ℕ
 told_taking p es s e values None = []

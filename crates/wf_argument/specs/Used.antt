@@ -63,4 +63,5 @@ scopes_in used = marked_scopes used.marks.now used.protocol.now.scopes
 
 -- the sizes that occur, from this one more than so many on
 abbrev pub sizes_left : List (List Participant) → ℕ → List SizeCount
-sizes_left scopes n = filter is_some_count (map (λ n. record { size = n; count = count_of_size scopes n }) (range_with_len (suc n) (most_processes - n)))
+sizes_left scopes n =
+    filter is_some_count (map (λ n. record { size = n; count = count_of_size scopes n }) (range_with_len (suc n) (most_processes - n)))

@@ -15,7 +15,8 @@ pub values_in_ranges : values_text (0 ∷ 1 ∷ 2 ∷ 3 ∷ 4 ∷ 6 ∷ 7 ∷ 8 
 unfolding digits
 values_in_ranges = refl
 
-pub more_values_than_are_told : values_text (0 ∷ 2 ∷ 4 ∷ 6 ∷ 8 ∷ 10 ∷ 12 ∷ 14 ∷ 16 ∷ 20 ∷ 21 ∷ 22 ∷ 23 ∷ 24 ∷ []) ≡ codes "0, 2, 4, 6, 8, 10, 12, 14 and 6 more"
+pub more_values_than_are_told : values_text (0 ∷ 2 ∷ 4 ∷ 6 ∷ 8 ∷ 10 ∷ 12 ∷ 14 ∷ 16 ∷ 20 ∷ 21 ∷ 22 ∷ 23 ∷ 24 ∷ [])
+    ≡ codes "0, 2, 4, 6, 8, 10, 12, 14 and 6 more"
 unfolding digits
 more_values_than_are_told = refl
 
@@ -31,12 +32,14 @@ one_range_left = refl
 pub many_values_left : rest_text 7 (1 ∷ 2 ∷ 3 ∷ 4 ∷ 6 ∷ []) ≡ []
 many_values_left = refl
 
-pub words_of_two_rounds : words_text (plain_names ((0, 1) ∷ (1, 0) ∷ (3, 1) ∷ [])) ((1 ∷ 0 ∷ 1 ∷ []) ∷ (0 ∷ 0 ∷ 0 ∷ []) ∷ []) ≡ codes "{p1}{p0 p3} ; {p0 p1 p3}"
+pub words_of_two_rounds : words_text (plain_names ((0, 1) ∷ (1, 0) ∷ (3, 1) ∷ [])) ((1 ∷ 0 ∷ 1 ∷ []) ∷ (0 ∷ 0 ∷ 0 ∷ []) ∷ [])
+    ≡ codes "{p1}{p0 p3} ; {p0 p1 p3}"
 unfolding digits
 words_of_two_rounds = refl
 
 -- an argument shows the inputs in the first round, and in a symmetric task the ranks
-pub words_with_inputs : words_text (argument_names false ((0, 1) ∷ (1, 0) ∷ (3, 1) ∷ [])) ((1 ∷ 0 ∷ 1 ∷ []) ∷ (0 ∷ 0 ∷ 0 ∷ []) ∷ []) ≡ codes "{p1=0}{p0=1 p3=1} ; {p0 p1 p3}"
+pub words_with_inputs : words_text (argument_names false ((0, 1) ∷ (1, 0) ∷ (3, 1) ∷ [])) ((1 ∷ 0 ∷ 1 ∷ []) ∷ (0 ∷ 0 ∷ 0 ∷ []) ∷ [])
+    ≡ codes "{p1=0}{p0=1 p3=1} ; {p0 p1 p3}"
 unfolding digits
 words_with_inputs = refl
 
@@ -58,16 +61,19 @@ more_tuples_than_are_told = refl
 
 -- the executions of consensus after one round, and those of a symmetric task,
 -- in which one point stands at two places
-pub executions_of_consensus : executions_text consensus 1 ≡ codes "0 {p0} : 0\n1 {p1} : 1\n2 {p0 p1} : 2 3\n3 {p0}{p1} : 0 3\n4 {p1}{p0} : 2 1\n"
+pub executions_of_consensus : executions_text consensus 1
+    ≡ codes "0 {p0} : 0\n1 {p1} : 1\n2 {p0 p1} : 2 3\n3 {p0}{p1} : 0 3\n4 {p1}{p0} : 2 1\n"
 unfolding digits
 executions_of_consensus = refl
 
-pub executions_of_renaming : executions_text renaming_2_2 1 ≡ codes "0 {p0} : 0\n1 {p1} : 0\n2 {p0 p1} : 1 2\n3 {p0}{p1} : 0 2\n4 {p1}{p0} : 1 0\n"
+pub executions_of_renaming : executions_text renaming_2_2 1
+    ≡ codes "0 {p0} : 0\n1 {p1} : 0\n2 {p0 p1} : 1 2\n3 {p0}{p1} : 0 2\n4 {p1}{p0} : 1 0\n"
 unfolding digits
 executions_of_renaming = refl
 
 -- the processes of executions by their numbers, and in a symmetric task how many there are at most
-pub about_processes : about_text false (0 ∷ 1 ∷ 3 ∷ []) (record { size = 1; count = 2 } ∷ record { size = 3; count = 12 } ∷ []) ≡ codes " of p0, p1 and p3: 2 of one process, 12 of three processes"
+pub about_processes : about_text false (0 ∷ 1 ∷ 3 ∷ []) (record { size = 1; count = 2 } ∷ record { size = 3; count = 12 } ∷ [])
+    ≡ codes " of p0, p1 and p3: 2 of one process, 12 of three processes"
 unfolding digits
 about_processes = refl
 

@@ -164,7 +164,8 @@ word_text text all w = flat_map (λ block. block_text text (block_of all w block
 -- a word a round; before the first round those who take part
 abbrev pub words_text : Names → List Word → List ℕ
 words_text names [] = block_text names.first names.all
-words_text names (w ∷ ws) = word_text names.first names.all w ++ others_text (word_text names.later names.all) (codes " ; ") (codes " ; ") ws
+words_text names (w ∷ ws) =
+    word_text names.first names.all w ++ others_text (word_text names.later names.all) (codes " ; ") (codes " ; ") ws
 
 abbrev pub execution_text : (Simplex → Names) → Option Execution → List ℕ
 execution_text names None = []

@@ -33,7 +33,8 @@ tuples_fault test simplex place (y ∷ ys) = if test y then tuples_fault test si
 -- the same for each simplex, from this number on
 abbrev pub rules_fault : (Simplex → Tuple → Bool) → ℕ → List Rule → Option BalanceFault
 rules_fault test simplex [] = None
-rules_fault test simplex (rule ∷ rules) = unless_fault (tuples_fault (test rule.input) simplex 0 rule.tuples) (rules_fault test (suc simplex) rules)
+rules_fault test simplex (rule ∷ rules) =
+    unless_fault (tuples_fault (test rule.input) simplex 0 rule.tuples) (rules_fault test (suc simplex) rules)
 
 -- the sum of the vertices, then each tuple
 abbrev pub sums_fault : Task → ℕ → ℕ → List Multiplier → Option BalanceFault

@@ -21,6 +21,7 @@ fn label_at(symmetric: bool, simplex: &Simplex, place: u8) -> u64
     ensures same { result ≡ slice_index (map (label symmetric) simplex.now) place }
     ensures small { result < 1024 }
 {
+    // for the proof alone, which reads what holds of every simplex
     let _ = simplex.colours();
     let process = simplex.colour(place);
     let Some(value) = simplex.value(process) else {

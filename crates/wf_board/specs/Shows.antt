@@ -66,7 +66,8 @@ SearchedIsEvent = (ledger : Ledger) (s : Table) (c : Core) (w : ℕ) (d : Desk) 
     → IsEvent c (Searched w i) (moved s 1 ((slice_index s.words 1 + 1) % 2 ^ 64) w (searched d i))
 
 abbrev pub CutIsEvent : Type 0
-CutIsEvent = (ledger : Ledger) (s : Table) (c : Core) (w : ℕ) (d : Desk) (i : ℕ) → IsSeat ledger s c w d → Is c i (status.Held w) → d.seen < i
+CutIsEvent =
+    (ledger : Ledger) (s : Table) (c : Core) (w : ℕ) (d : Desk) (i : ℕ) → IsSeat ledger s c w d → Is c i (status.Held w) → d.seen < i
     → IsEvent c (Cut w i) (moved s 2 ((slice_index s.words 2 + 1) % 2 ^ 64) w (is_cut d i))
 
 -- a table of fresh seats, one for each worker, shows the opening state

@@ -26,16 +26,19 @@ IsQuietBut number ks marks box = (e : ℕ) → e ≢ number → e < length ks �
 
 -- an execution without a mark had none before, and its points have the sets that they had
 abbrev pub IsUntouched : Users → List (List ℕ) → List ℕ → List (List ℕ) → List ℕ → Type 0
-IsUntouched u words marks fewer more = (e : ℕ) → bit_of more e ≡ 0 → (bit_of marks e ≡ 0) × ((v : ℕ) → IsUser u v e → get_or fewer v [] ≡ get_or words v [])
+IsUntouched u words marks fewer more =
+    (e : ℕ) → bit_of more e ≡ 0 → (bit_of marks e ≡ 0) × ((v : ℕ) → IsUser u v e → get_or fewer v [] ≡ get_or words v [])
 
 -- each execution but this one, if it has no mark, had none before, and its points have the sets
 -- that they had
 abbrev pub IsUntouchedBut : ℕ → Users → List (List ℕ) → List ℕ → List (List ℕ) → List ℕ → Type 0
-IsUntouchedBut number u words marks fewer more = (e : ℕ) → e ≢ number → bit_of more e ≡ 0 → (bit_of marks e ≡ 0) × ((v : ℕ) → IsUser u v e → get_or fewer v [] ≡ get_or words v [])
+IsUntouchedBut number u words marks fewer more =
+    (e : ℕ) → e ≢ number → bit_of more e ≡ 0 → (bit_of marks e ≡ 0) × ((v : ℕ) → IsUser u v e → get_or fewer v [] ≡ get_or words v [])
 
 -- the points of an execution without a mark have the candidates that they had after so many changes
 abbrev pub IsUntouchedSince : ℕ → Users → Tracked → Marks → Type 0
-IsUntouchedSince n u t marks = (e : ℕ) → bit_of marks.words.items e ≡ 0 → (v : ℕ) → IsUser u v e → get_or (words_at n t) v [] ≡ get_or t.words.items v []
+IsUntouchedSince n u t marks =
+    (e : ℕ) → bit_of marks.words.items e ≡ 0 → (v : ℕ) → IsUser u v e → get_or (words_at n t) v [] ≡ get_or t.words.items v []
 
 -- a point without a candidate had none after so many changes
 abbrev pub EmptiesNoneSince : ℕ → Tracked → Type 0

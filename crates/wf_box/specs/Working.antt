@@ -65,7 +65,8 @@ LeavesUntouched n old new = IsUntouched n.users old.tracked.words.items old.mark
 -- an execution without a mark, if it is not this one, had none before, and its points have the
 -- candidates that they had
 abbrev pub LeavesOthersUntouched : Network → ℕ → Workspace → Workspace → Type 0
-LeavesOthersUntouched n number old new = IsUntouchedBut number n.users old.tracked.words.items old.marks.words.items new.tracked.words.items new.marks.words.items
+LeavesOthersUntouched n number old new =
+    IsUntouchedBut number n.users old.tracked.words.items old.marks.words.items new.tracked.words.items new.marks.words.items
 
 -- an execution without a mark has lost nothing
 abbrev pub IsQuietAt : Network → ℕ → Workspace → Type 0

@@ -3,9 +3,9 @@ use Rattle.std.proofs.Common.{◌≡◌, ◌≤◌, ◌<◌, ◌+◌, ◌==◌, 
 use Rattle.std.proofs.lemmas.Bool.{and_parts}
 use Rattle.std.proofs.Math.Seq.{drop-append_seam, take-append_seam}
 use Rattle.std.specs.List.{AllByRecursion}
-use Rattle.wf_model.specs.Limits.{most_number}
+use Rattle.wf_model.specs.Limits.{most_number, most_value}
 use Rattle.wf_model.specs.Refutation.{Line, remove, empty, branch, found}
-use Rattle.wf_model.specs.Report.{Report, Body, a_map, none, least, answer_line, body_text, largest, line, line_text, lines_of, onto_first, report_text, same_text, value_line}
+use Rattle.wf_model.specs.Report.{Report, Body, a_map, none, least, answer_line, body_text, line, line_text, lines_of, onto_first, report_text, same_text, value_line}
 use Rattle.wf_model.proofs.Lemmas.{weaker}
 use Rattle.wf_report.specs.Grammar.{IsBodyWithin, IsInGrammar, IsLineWithin, IsStepWithin}
 use Rattle.wf_report.specs.Reading.{lacks}
@@ -119,7 +119,7 @@ closes_steps (l ∷ ls) s h closes =
     let assoc : (line_text l ++ flat_map line_text ls) ++ s ≡ line_text l ++ (flat_map line_text ls ++ s) = append_assoc (line_text l) (flat_map line_text ls) s in
     subst Closes (sym assoc) (closes_step l (flat_map line_text ls ++ s) h.0 (closes_steps ls s h.1 closes))
 
-closes_values : (m : List ℕ) (s : List ℕ) → AllByRecursion (λ a. a ≤ largest 2) m → Closes s → Closes (flat_map value_line m ++ s)
+closes_values : (m : List ℕ) (s : List ℕ) → AllByRecursion (λ a. a ≤ most_value) m → Closes s → Closes (flat_map value_line m ++ s)
 closes_values [] s h closes = closes
 closes_values (a ∷ m) s h closes =
     let assoc : (value_line a ++ flat_map value_line m) ++ s ≡ value_line a ++ (flat_map value_line m ++ s) = append_assoc (value_line a) (flat_map value_line m) s in

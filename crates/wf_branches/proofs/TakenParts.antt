@@ -31,8 +31,8 @@ module _ (t : Task) (r i : ℕ) (body : Body) (within : IsWithin t r body) where
   unfolding text_of_report
   behind_head rest begins = append_cancel_left (part_head i Count) rest (report_text (report_about t r body)) (sym begins)
 
-  its_report : (rest : List ℕ) → part_text t r i body ≡ part_head i Count ++ rest → report_of 2 rest ≡ Ok (report_about t r body)
-  its_report rest begins = ap (report_of 2) (behind_head rest begins) ∙ written_read (report_about t r body) within
+  its_report : (rest : List ℕ) → part_text t r i body ≡ part_head i Count ++ rest → report_of rest ≡ Ok (report_about t r body)
+  its_report rest begins = ap report_of (behind_head rest begins) ∙ written_read (report_about t r body) within
 
   read_part : (report : Report) → IsPartOf i Count (part_text t r i body) (Ok report) → report ≡ report_about t r body
   read_part report (rest, begins, few, is) =

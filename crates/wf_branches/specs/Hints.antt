@@ -29,7 +29,8 @@ ReadsHintsIn i = ReadsIn ReadsBranchHints i
 -- rounds, and that no decision map is accepted there was written. The task, its limits and the
 -- branch are judged before the proof is read.
 abbrev pub RefutesBranchByHints : ℕ → ℕ → Reading → Reading → Reading → Reading → Writing → Writing → Result (Unit {0}) RunFault → Type 0
-RefutesBranchByHints r i task task' proof proof' sink sink' result = Ran (AsksBoth (ReadsHintsIn i) r task task' proof proof') sink sink' result
+RefutesBranchByHints r i task task' proof proof' sink sink' result =
+    Ran (AsksBoth (ReadsHintsIn i) r task task' proof proof') sink sink' result
 
 -- ---- laws
 

@@ -58,7 +58,8 @@ AcceptsBody i t r report (Err e) = ChecksIn i t r report (Err e)
 
 -- what the text says of branch i, where it is a part about it that is accepted
 abbrev pub IsBodyIn : ℕ → Task → ℕ → List ℕ → Result Body RunFault → Type 0
-IsBodyIn i t r text result = (report : Result Report RunFault) × IsPartOf i (length (branches t r)) text report × Next (AcceptsBody i t r) report result
+IsBodyIn i t r text result =
+    (report : Result Report RunFault) × IsPartOf i (length (branches t r)) text report × Next (AcceptsBody i t r) report result
 
 -- a refusal of the part about branch i, where it is one among others
 abbrev pub in_part : ℕ → RunFault → RunFault
@@ -129,7 +130,8 @@ lines_in (least m ls) = length m + length ls
 -- The report with this answer is about the whole question. The checker finds no fault in it, and
 -- the text is its own; or it has one, or more lines than can be numbered.
 abbrev pub AcceptsJoined : Task → ℕ → Body → Result (Unit {0} × List ℕ) RunFault → Type 0
-AcceptsJoined t r body (Ok answer) = AreNumbered (lines_in body) × IsFaultless t (report_about t r body) × (answer.1 ≡ text_of_report t r body)
+AcceptsJoined t r body (Ok answer) =
+    AreNumbered (lines_in body) × IsFaultless t (report_about t r body) × (answer.1 ≡ text_of_report t r body)
 AcceptsJoined t r body (Err (Cert amiss.OutOfMemory)) = ⊥
 AcceptsJoined t r body (Err (Cert e)) = AreNumbered (lines_in body) × Fails e (report_fault t r (report_about t r body))
 AcceptsJoined t r body (Err TooLong) = AreNumbered (lines_in body) → ⊥
@@ -139,7 +141,8 @@ AcceptsJoined t r body (Err e) = ⊥
 -- the parts of the text are put together to a report, and that is checked
 abbrev pub JoinsText : Task → ℕ → List ℕ → Result (Unit {0} × List ℕ) RunFault → Type 0
 JoinsText t r text result =
-    (gathered : Result Gathered RunFault) × GathersAll t r text gathered × Next (λ g. AcceptsJoined t r (joined_body (outline (problem_of t r)) g)) gathered result
+    (gathered : Result Gathered RunFault) × GathersAll t r text gathered
+    × Next (λ g. AcceptsJoined t r (joined_body (outline (problem_of t r)) g)) gathered result
 
 -- a source's text as such parts
 abbrev pub ReadsParts : Task → ℕ → Reading → Reading → Result (Unit {0} × List ℕ) RunFault → Type 0

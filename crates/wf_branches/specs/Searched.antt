@@ -49,5 +49,6 @@ AreTooMuch asked t r found OutOfMemory = Unit {0}
 AreTooMuch asked t r found TooLong =
     (body : Body) × (account : Account) × IsSolved asked t r (found, account) (text_of_report t r body) × (AreNumbered (lines_in body) → ⊥)
 AreTooMuch asked t r found (InPart i (part.Report amiss.TooLong)) =
-    (had : Outcome) × (body : Body) × HasBranch t r i × IsSolvedIn asked t r i had (part_text t r i body) × (most_bytes < length (text_of_report t r body))
+    (had : Outcome) × (body : Body) × HasBranch t r i × IsSolvedIn asked t r i had (part_text t r i body)
+    × (most_bytes < length (text_of_report t r body))
 AreTooMuch asked t r found e = ⊥

@@ -27,7 +27,8 @@ use Rattle.wf_branches.specs.Refuting.{HasNoMapIn}
 pub record IsLeastInBranch (t : Task) (r i : ℕ) (m : View → ℕ) : Type 0 where
   pub decides : IsDecisionMap t r m
   pub lies : LiesIn (listed t r m) (branch_at t r i)
-  pub least : (other : View → ℕ) → IsDecisionMap t r other → LiesIn (listed t r other) (branch_at t r i) → IsBelowOrSame (listed t r m) (listed t r other)
+  pub least : (other : View → ℕ) → IsDecisionMap t r other → LiesIn (listed t r other) (branch_at t r i)
+      → IsBelowOrSame (listed t r m) (listed t r other)
 
 -- The lines of the canonical search of branch i up to its map. They are those
 -- of a tree that leads to the map.

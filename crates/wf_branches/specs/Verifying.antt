@@ -25,10 +25,11 @@ use Rattle.wf_branches.specs.Solving.{IsLeastInBranch, part_head}
 -- the report of a part about branch i of n, or why the text is none; if more bytes stand behind
 -- the head than a text may have, they are too long, whatever they are
 abbrev pub IsPartOf : ℕ → ℕ → List ℕ → Result Report RunFault → Type 0
-IsPartOf i n text (Ok report) = (rest : List ℕ) × (text ≡ part_head i n ++ rest) × (length rest ≤ most_bytes) × (report_of 2 rest ≡ Ok report)
+IsPartOf i n text (Ok report) = (rest : List ℕ) × (text ≡ part_head i n ++ rest) × (length rest ≤ most_bytes) × (report_of rest ≡ Ok report)
 IsPartOf i n text (Err OtherPart) = (rest : List ℕ) → text ≡ part_head i n ++ rest → ⊥
 IsPartOf i n text (Err OutOfMemory) = Unit {0}
-IsPartOf i n text (Err (Cert e)) = (rest : List ℕ) × (text ≡ part_head i n ++ rest) × (length rest ≤ most_bytes) × IsReportOf most_bytes rest (Err (Cert e))
+IsPartOf i n text (Err (Cert e)) =
+    (rest : List ℕ) × (text ≡ part_head i n ++ rest) × (length rest ≤ most_bytes) × IsReportOf most_bytes rest (Err (Cert e))
 IsPartOf i n text (Err e) = (rest : List ℕ) × (text ≡ part_head i n ++ rest) × IsReportOf most_bytes rest (Err e)
 
 -- What a part says of branch i. A map lists a decision map over the points that lies there, and
@@ -59,18 +60,21 @@ abbrev pub ChecksIn : ℕ → Task → ℕ → Report → Result (Unit {0}) RunF
 ChecksIn i t r report (Ok done) = IsFaultlessIn t r i report
 ChecksIn i t r report (Err (Cert amiss.OutOfMemory)) = ⊥
 ChecksIn i t r report (Err (Cert e)) = Fails e (report_fault_within t r (branch_at t r i) report)
-ChecksIn i t r report (Err NotInBranch) = (report_fault_within t r (branch_at t r i) report ≡ None) × (is_outside report.body (branch_at t r i) ≡ true)
+ChecksIn i t r report (Err NotInBranch) =
+    (report_fault_within t r (branch_at t r i) report ≡ None) × (is_outside report.body (branch_at t r i) ≡ true)
 ChecksIn i t r report (Err OutOfMemory) = Unit {0}
 ChecksIn i t r report (Err e) = ⊥
 
 -- it is accepted, and the text is the line that says so; or it is refused
 abbrev pub ChecksPart : ℕ → Task → ℕ → Report → Result (Unit {0} × List ℕ) RunFault → Type 0
-ChecksPart i t r report (Ok answer) = ChecksIn i t r report (Ok tt) × (answer.1 ≡ accepted_in (accepted_words report.body) i (length (branches t r)) r)
+ChecksPart i t r report (Ok answer) =
+    ChecksIn i t r report (Ok tt) × (answer.1 ≡ accepted_in (accepted_words report.body) i (length (branches t r)) r)
 ChecksPart i t r report (Err e) = ChecksIn i t r report (Err e)
 
 -- the text is read as a part about branch i, and that is checked
 abbrev pub JudgesPart : ℕ → Task → ℕ → List ℕ → Result (Unit {0} × List ℕ) RunFault → Type 0
-JudgesPart i t r text result = (report : Result Report RunFault) × IsPartOf i (length (branches t r)) text report × Next (ChecksPart i t r) report result
+JudgesPart i t r text result =
+    (report : Result Report RunFault) × IsPartOf i (length (branches t r)) text report × Next (ChecksPart i t r) report result
 
 -- a source's text as such a part
 abbrev pub ReadsPart : ℕ → ReadsAbout

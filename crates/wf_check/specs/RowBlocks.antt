@@ -32,7 +32,8 @@ pub record IsPlain (size : ℕ) (row : Tuple) : Type 0 where
 
 -- each block has the words of its rows
 abbrev pub AreBlocks : {A : Type 0} → List Tuple → List (Vec ℕ A) → Type 0
-AreBlocks {A} rows blocks = (k : ℕ) (b : Vec ℕ A) → k < length blocks → b ≡ get_or blocks k b → IsBlock (take 64 (drop (64 * k) rows)) b.items
+AreBlocks {A} rows blocks =
+    (k : ℕ) (b : Vec ℕ A) → k < length blocks → b ≡ get_or blocks k b → IsBlock (take 64 (drop (64 * k) rows)) b.items
 
 -- the rows are plain, and stand in the blocks
 pub record IsCut {A : Type 0} (size : ℕ) (rows : List Tuple) (blocks : List (Vec ℕ A)) : Type 0 where

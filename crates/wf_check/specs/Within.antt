@@ -15,7 +15,8 @@ fault_within p box (least m ls) = unless_fault (map_fault p m) (first_least_faul
 
 -- the first fault of such a report about a task and a number of rounds
 abbrev pub report_fault_within : Task → ℕ → Box → Report → Option Refusal
-report_fault_within t rounds box r = unless_fault (header_fault t rounds (problem_of t rounds) r) (fault_within (problem_of t rounds) box r.body)
+report_fault_within t rounds box r =
+    unless_fault (header_fault t rounds (problem_of t rounds) r) (fault_within (problem_of t rounds) box r.body)
 
 -- the tuples of each rule of the task
 abbrev pub IsCheckerOf : Task → List (List Tuple) → Type 0

@@ -21,23 +21,28 @@ use Rattle.wf_checker.specs.declared.job.CheckJob.{CheckJob}
 
 -- a certificate about a task was checked
 abbrev pub Checks : Check → DoesBoth (Unit {0})
-Checks (Certificate rounds long) task task' source source' sink sink' result = Did (VerifiesCertificate (most_of long) rounds) task task' source source' sink sink' result
+Checks (Certificate rounds long) task task' source source' sink sink' result =
+    Did (VerifiesCertificate (most_of long) rounds) task task' source source' sink sink' result
 Checks (Proof rounds) task task' source source' sink sink' result = Refutes rounds task task' source source' sink sink' result
 Checks (HintedProof rounds) task task' source source' sink sink' result = RefutesByHints rounds task task' source source' sink sink' result
 
 -- a certificate about the task in a file was checked, and a run that is refused is a refusal
-abbrev pub ChecksFile : {F : Type 0} → (Opening → Type 0) → Check → Filing F → Filing F → Reading → Reading → Writing → Writing → Result (Unit {0}) Refusal → Type 0
+abbrev pub ChecksFile : {F : Type 0} → (Opening → Type 0) → Check → Filing F → Filing F → Reading → Reading → Writing → Writing
+    → Result (Unit {0}) Refusal → Type 0
 ChecksFile comes check folder folder' source source' sink sink' done =
-    (result : Result (Unit {0}) RunFault) × WithFile comes (Checks check) folder folder' source source' sink sink' result × (done ≡ as_file_refusal (state_of folder'.kept) result)
+    (result : Result (Unit {0}) RunFault) × WithFile comes (Checks check) folder folder' source source' sink sink' result
+    × (done ≡ as_file_refusal (state_of folder'.kept) result)
 
 -- the certificate was checked about the task in the file, which is among those that may be opened
 -- under its path
-abbrev pub DoesJob : {F : Type 0} → Opens → CheckJob → Filing F → Filing F → Reading → Reading → Writing → Writing → Result (Unit {0}) Refusal → Type 0
+abbrev pub DoesJob : {F : Type 0} → Opens → CheckJob → Filing F → Filing F → Reading → Reading → Writing → Writing
+    → Result (Unit {0}) Refusal → Type 0
 DoesJob opens job folder folder' source source' sink sink' done =
     ChecksFile (opens (string_bytes job.task)) job.check folder folder' source source' sink sink' done
 
 -- what is asked for was done; or there is no job, and nothing was read, and no file was asked for
-abbrev pub DoesCheck : {F : Type 0} → Opens → Result CheckJob WordsFault → Filing F → Filing F → Reading → Reading → Writing → Writing → Result (Unit {0}) Refusal → Type 0
+abbrev pub DoesCheck : {F : Type 0} → Opens → Result CheckJob WordsFault → Filing F → Filing F → Reading → Reading → Writing → Writing
+    → Result (Unit {0}) Refusal → Type 0
 DoesCheck opens (Ok job) folder folder' source source' sink sink' done = DoesJob opens job folder folder' source source' sink sink' done
 DoesCheck opens (Err e) folder folder' source source' sink sink' done =
     (folder' ≡ folder) × (source' ≡ source) × DeclinesAs (codes "wfverify") e sink sink' done
@@ -48,7 +53,8 @@ EndsCheck errors errors' (Ok done) status = (status ≡ 0) × (errors' ≡ error
 EndsCheck errors errors' (Err e) status = Refuses (codes "wfverify") errors errors' e status
 
 -- the words were judged, what they ask for was done, and a refusal was told
-abbrev pub ServesCheck : {F : Type 0} → Opens → GivenWords → Filing F → Filing F → Reading → Reading → Writing → Writing → Writing → Writing → ℕ → Type 0
+abbrev pub ServesCheck : {F : Type 0} → Opens → GivenWords → Filing F → Filing F → Reading → Reading → Writing → Writing → Writing
+    → Writing → ℕ → Type 0
 ServesCheck opens words folder folder' source source' sink sink' errors errors' status =
     (asked : Result CheckJob WordsFault) × (done : Result (Unit {0}) Refusal) × IsAsked job_asked words asked
     × DoesCheck opens asked folder folder' source source' sink sink' done × EndsCheck errors errors' done status

@@ -7,7 +7,8 @@ use Rattle.wf_words.specs.Options.{flag_option, number_option, required, task_op
 abbrev pub command_line : App
 command_line = record {
   top = record (new_shape (codes "wfverify")) {
-    rules = required task_option ∷ number_option (codes "rounds") ∷ flag_option (codes "proof") ∷ flag_option (codes "lrat") ∷ flag_option (codes "long") ∷ [];
+    rules = required task_option ∷ number_option (codes "rounds") ∷ flag_option (codes "proof") ∷ flag_option (codes "lrat")
+        ∷ flag_option (codes "long") ∷ [];
     has_version = true;
   };
   subs = [];

@@ -45,4 +45,5 @@ abbrev pub CheckingIsCounted : {F : Type 0} → Opens → Filing F → Type 0
 CheckingIsCounted {F = F} opens folder =
     (words : GivenWords) (folder' : Filing F) (source source' : Reading) (sink sink' errors errors' : Writing) (status : ℕ)
     → ServesCheck opens words folder folder' source source' sink sink' errors errors' status
-    → (asked : Result CheckJob WordsFault) × IsAsked job_asked words asked × IsCheckServed asked folder folder' source source' sink sink' errors errors' status
+    → (asked : Result CheckJob WordsFault) × IsAsked job_asked words asked
+    × IsCheckServed asked folder folder' source source' sink sink' errors errors' status

@@ -139,8 +139,9 @@ impl Clauses {
         self.spans[number] = ClauseRange { start, end: start };
     }
 
-    /// Stores a clause that watches these two literals. Refused for want of memory alone, which
-    /// there is for fewer than 2^32 - 1 words.
+    /// Stores a clause that watches these two literals. Refused out of memory, if the words would
+    /// be more than 2^32 - 1, or if a literal is the word with which clauses begin: no variable
+    /// within the limit has such a literal.
     pub(crate) fn push(
         &mut self,
         literals: &[Code],

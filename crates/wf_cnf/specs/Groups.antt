@@ -19,4 +19,5 @@ AreFollowers place next tuples sets = (v a : ℕ) → v < value_limit → has (g
 
 -- the set of each value has those of the given values that the tuples of each list have so
 abbrev pub AreAllowed : ℕ → ℕ → List ℕ → List (List Tuple) → List (List ℕ) → Type 0
-AreAllowed place next values lists sets = (v a : ℕ) → v < value_limit → has (get_or sets v []) a ≡ (has values a && occurs_in_each (map (having place v) lists) next a)
+AreAllowed place next values lists sets =
+    (v a : ℕ) → v < value_limit → has (get_or sets v []) a ≡ (has values a && occurs_in_each (map (having place v) lists) next a)

@@ -32,7 +32,8 @@ text_laws = record {
 
 -- ---- the clause at hand of a checker
 
-ended_more : (begun : Clause) (some next : List Token) → ended begun (some ++ next) ≡ ended begun some ++ ended (begun_after begun some) next
+ended_more : (begun : Clause) (some next : List Token) → ended begun (some ++ next) ≡ ended begun some
+    ++ ended (begun_after begun some) next
 ended_more begun [] next = refl
 ended_more begun (Some literal ∷ some) next = ended_more (begun ++ literal ∷ []) some next
 ended_more begun (None ∷ some) next = ap (λ cs. begun ∷ cs) (ended_more [] some next)
@@ -66,7 +67,8 @@ adds_tokens is_posed some next a b c old now new first second = record {
 
 -- one of two that are added one after the other
 both_added : {C E : Type 0} (is_posed : Formula → C → Type 0) (some next : List Token) (a b c : Clause) (old now new : C) (result : Result (Unit {0}) E)
-    → AddsTokens is_posed some a old b now → IfOk result (λ done. AddsTokens is_posed next b now c new) → IfOk result (λ done. AddsTokens is_posed (some ++ next) a old c new)
+    → AddsTokens is_posed some a old b now → IfOk result (λ done. AddsTokens is_posed next b now c new)
+    → IfOk result (λ done. AddsTokens is_posed (some ++ next) a old c new)
 both_added is_posed some next a b c old now new (Ok done) first second = adds_tokens is_posed some next a b c old now new first second
 both_added is_posed some next a b c old now new (Err fault) first second = tt
 

@@ -5,9 +5,6 @@ pub use Rattle.wf_complex.proofs.ExecutionAt.{as_many_constraints, known_points,
 pub use Rattle.wf_complex.proofs.Executions.{length-executions, length-lists_of}
 pub use Rattle.wf_complex.proofs.LayoutLemmas.{turns_here, words_some}
 pub use Rattle.wf_complex.proofs.PackedLemmas.{four_all, four_long, four_part, zip_part}
-pub use Rattle.wf_complex.proofs.Ranked.{number_of-at}
 pub use Rattle.wf_complex.proofs.RuleAt.{as_many_executions, constraint_there, got}
-pub use Rattle.wf_complex.proofs.ShownViews.{views_at_front}
 pub use Rattle.wf_complex.proofs.ViewTexts.{and_more}
-pub use Rattle.wf_complex.proofs.ViewsWithin.{no_more}
 pub use Rattle.wf_complex.proofs.WalkLemmas.{length_first, next_at}

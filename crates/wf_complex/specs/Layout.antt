@@ -23,10 +23,12 @@ place_total m rounds (s ∷ ss) = turns m (length s) rounds * length s + place_t
 -- the executions on one simplex, one place after another from this one on
 abbrev pub laid_on : ℕ → ℕ → ℕ → ℕ → List ExecutionSlot
 laid_on simplex size place zero = []
-laid_on simplex size place (suc count) = record { simplex = simplex; place = place; size = size } ∷ laid_on simplex size (place + size) count
+laid_on simplex size place (suc count) =
+    record { simplex = simplex; place = place; size = size } ∷ laid_on simplex size (place + size) count
 
 -- the executions on these simplices, of which the first has this number and begins at this place
 abbrev pub laid_out : ℕ → ℕ → ℕ → ℕ → List Simplex → List ExecutionSlot
 laid_out m rounds number place [] = []
 laid_out m rounds number place (s ∷ ss) =
-    laid_on number (length s) place (turns m (length s) rounds) ++ laid_out m rounds (number + 1) (place + turns m (length s) rounds * length s) ss
+    laid_on number (length s) place (turns m (length s) rounds)
+    ++ laid_out m rounds (number + 1) (place + turns m (length s) rounds * length s) ss

@@ -7,4 +7,5 @@ use Rattle.wf_complex.specs.Protocol.{Built, IsProtocol}
 -- it is the complex of each task that has these input simplices, and words
 -- with a first block of m at least or of all
 abbrev pub IsMade : List Simplex → Bool → ℕ → ℕ → Built → Type 0
-IsMade simplices symmetric m r b = (t : Task) → IsTask t → inputs t ≡ simplices → t.symmetric ≡ symmetric → first_block t ≡ m → IsProtocol t r b
+IsMade simplices symmetric m r b =
+    (t : Task) → IsTask t → inputs t ≡ simplices → t.symmetric ≡ symmetric → first_block t ≡ m → IsProtocol t r b

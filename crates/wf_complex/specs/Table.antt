@@ -17,7 +17,9 @@ joined a b = a + 4294967296 * b
 
 -- what an entry is hashed by
 abbrev pub hash_writes : Node → List (List ℕ)
-hash_writes node = u64 (joined (slice_index node.ids 0) (slice_index node.ids 1)) ++ u64 (joined (slice_index node.ids 2) (slice_index node.ids 3)) ++ u8 node.process
+hash_writes node =
+    u64 (joined (slice_index node.ids 0) (slice_index node.ids 1)) ++ u64 (joined (slice_index node.ids 2) (slice_index node.ids 3))
+    ++ u8 node.process
 
 abbrev pub base_node : ℕ → ℕ → Node
 base_node p x = record { process = p; count = 0; ids = x ∷ 0 ∷ 0 ∷ 0 ∷ [] }

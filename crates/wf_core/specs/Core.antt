@@ -126,7 +126,8 @@ tests s (Look w) = (has_worker s w, NoWorker) ∷ (is_active s w, Ended) ∷ []
 tests s (Post w i) = (has_worker s w, NoWorker) ∷ (has_branch s i, NoBranch) ∷ (is_active s w, Ended) ∷ (holds s w i, NotHeld) ∷ []
 tests s (Searched w i) = (has_worker s w, NoWorker) ∷ (has_branch s i, NoBranch) ∷ (is_active s w, Ended) ∷ (holds s w i, NotHeld) ∷ []
 tests s (Cut w i) =
-    (has_worker s w, NoWorker) ∷ (has_branch s i, NoBranch) ∷ (is_active s w, Ended) ∷ (holds s w i, NotHeld) ∷ (has_seen_below s w i, NotBelow) ∷ []
+    (has_worker s w, NoWorker) ∷ (has_branch s i, NoBranch) ∷ (is_active s w, Ended) ∷ (holds s w i, NotHeld)
+    ∷ (has_seen_below s w i, NotBelow) ∷ []
 tests s (End w) = (has_worker s w, NoWorker) ∷ (is_active s w, Ended) ∷ (is_idle s w, Busy) ∷ []
 
 abbrev pub refusal : State → Event → Option Illegal

@@ -26,7 +26,8 @@ lift_seen lift = sheeted lift.round.cover.now lift.simplex lift.rows.now lift.ne
 
 -- what processes decide in place of a value, those of the simplex on any of the sheets
 abbrev pub on_sheets : Simplex → ℕ → ℕ → ℕ → ℕ → List ℕ
-on_sheets simplex sheets new process value = if has (processes_of simplex) process then map (λ sheet. value + sheet * new) (below sheets) else value ∷ []
+on_sheets simplex sheets new process value =
+    if has (processes_of simplex) process then map (λ sheet. value + sheet * new) (below sheets) else value ∷ []
 
 -- the cover is flat, all names fit a byte, and a table has the names of each value
 pub record IsLift (lift : Lift) : Type 0 where

@@ -39,7 +39,8 @@ moved_by moves tuple i j sheet = if i == j then sheet else move_by (moves_seen m
 
 abbrev pub is_flat_by : List code.Move → ℕ → Tuple → ℕ → ℕ → ℕ → ℕ → Bool
 is_flat_by moves sheets tuple i j k sheet =
-    nat_lt (moved_by moves tuple i j sheet) sheets && (moved_by moves tuple j k (moved_by moves tuple i j sheet) == moved_by moves tuple i k sheet)
+    nat_lt (moved_by moves tuple i j sheet) sheets
+    && (moved_by moves tuple j k (moved_by moves tuple i j sheet) == moved_by moves tuple i k sheet)
 
 abbrev pub is_flat_round : List code.Move → ℕ → Tuple → ℕ → ℕ → ℕ → Bool
 is_flat_round moves sheets tuple i j k = list_all (is_flat_by moves sheets tuple i j k) (below sheets)

@@ -203,6 +203,7 @@ fn rows_covered(
     ensures refused { IfErr result (λ fault. IsTooMany fault most
         (length (tuples_covered (lift_seen lift.now) (rule_of simplex.now rows.now)))) }
 {
+    // for the proof alone, which reads what holds of every simplex
     let _ = simplex.colours();
     if *simplex == lift.corner {
         rows_within(alloc, rows, most)
@@ -243,6 +244,7 @@ fn face_rows(
     ensures refused { IfErr result (λ fault. IsTooMany fault most
         (length (lifts_on_face (lift_seen lift.now) (rule_of face.now allowed.now)))) }
 {
+    // for the proof alone, which reads what holds of every simplex
     let _ = face.colours();
     let mask = mask_of(alloc, face, &lift.simplex)?;
     let mut found = Vec::new(alloc);

@@ -67,6 +67,22 @@ pub past_comma : (xs rest : List ℕ) → xs ≡ 44 ∷ rest → punctuate after
 unfolding lex punctuate
 past_comma xs rest e = ap (λ t. punctuate after_value (lex between t)) e
 
+-- an array of two digits with no blank between
+pub first-pair : (p : Place) (xs rest : List ℕ) (x y : ℕ) → x < 10 → y < 10 → may_begin p ≡ true → xs ≡ 91 ∷ (48 + x) ∷ 44 ∷ (48 + y) ∷ 93 ∷ rest
+    → punctuate p (lex between xs) ≡ Token.begin_array ∷ number (decimal x) ∷ number (decimal y) ∷ Token.end_array ∷ punctuate after_value (lex between rest)
+first-pair p xs rest x y low lower h e =
+    let last = 93 ∷ rest in
+    let second = (48 + y) ∷ last in
+    let comma = 44 ∷ second in
+    let first = (48 + x) ∷ comma in
+    let more : punctuate after_value (lex between last) ≡ Token.end_array ∷ punctuate after_value (lex between rest) = first-end_array after_value last rest refl refl in
+    let two : punctuate after_comma (lex between second) ≡ number (decimal y) ∷ punctuate after_value (lex between last) =
+    first-number after_comma second last y (omega (arith, lower)) refl (ap (λ d. d ++ last) (sym (decimal_digit y lower))) refl in
+    let one : punctuate fresh (lex between first) ≡ number (decimal x) ∷ punctuate after_value (lex between comma) =
+    first-number fresh first comma x (omega (arith, low)) refl (ap (λ d. d ++ comma) (sym (decimal_digit x low))) refl in
+    first-begin_array p xs first h e
+    ∙ ap (λ ts. Token.begin_array ∷ ts) (one ∙ ap (λ ts. number (decimal x) ∷ ts) (past_comma comma second refl ∙ two ∙ ap (λ ts. number (decimal y) ∷ ts) more))
+
 pub at_end : (p : Place) (xs : List ℕ) → may_close p ≡ true → length xs ≡ 0 → punctuate p (lex between xs) ≡ []
 unfolding lex punctuate
 at_end fresh [] h e = refl

@@ -1,5 +1,6 @@
 -- Tokens that a value was read from: each form of value, from its parts.
 use Rattle.std.proofs.Common.{◌≡◌, ℕ, suc, ◌-◌, ◌<◌, ◌≤◌, Bool, List, [], ◌∷◌, ◌++◌, length, Option, Some, None, IfSome, option_map, Result, Ok, Err, refl, sym, ap, ◌∙◌, subst, arith, map, IfOk}
+use Rattle.std.specs.Fmt.{decimal}
 use Rattle.std.specs.Result.{result_ok}
 use Rattle.json.specs.Token.{Token}
 use Rattle.json.specs.Json as json
@@ -8,6 +9,7 @@ use Rattle.json.proofs.Grammar.{left, value_is, value-begin_array, value-begin_o
 use Rattle.serde_json.specs.Data.{Data, array, object, unsigned, Items, no_items, item, Members, no_members, put}
 use Rattle.serde_json.specs.Find.{as_bool}
 use Rattle.serde_json.specs.Read.{number_of, of_json, of_items, of_members, converted}
+use Rattle.serde_json.proofs.Numbers.{number_of-decimal}
 use Rattle.wf_draft.proofs.ConvertedValues.{converted_some, converted-array, converted-object, item_read, items_over, member_read, members_over}
 use Rattle.wf_draft.specs.Shape.{whole_of, pair_of, with_first, each, all_of, list_of}
 use Rattle.wf_draft.specs.Plain.{data_at, Takes, TakesItems, Adds, TakesMembers}
@@ -111,6 +113,14 @@ takes-pair ts r s new x y first second end depth enough =
     ap (λ o. converted pair_of (converted of_json o)) (value-begin_array depth ts (omega (arith, enough)))
     ∙ ap (converted pair_of) (converted-array (items p n ts) ∙ ap (parse_map array) all)
     ∙ rw one.2 (rw two.2 refl)
+
+pub takes-digits : (x y : ℕ) → x < 10 → y < 10 → (old new : List Token) → old ≡ Token.begin_array ∷ Token.number (decimal x) ∷ Token.number (decimal y) ∷ Token.end_array ∷ new → Takes pair_of 1 old (x, y) new
+takes-digits x y low lower old new is =
+    let last = Token.end_array ∷ new in
+    let more = Token.number (decimal y) ∷ last in
+    let one = takes-number (decimal x) x more (number_of-decimal x (omega (arith, low))) in
+    let two = takes-number (decimal y) y last (number_of-decimal y (omega (arith, lower))) in
+    subst (λ ts. Takes pair_of 1 ts (x, y) new) (sym is) (takes-pair (Token.number (decimal x) ∷ more) more last new x y one two refl)
 
 -- ---- an object
 

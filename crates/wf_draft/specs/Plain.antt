@@ -19,7 +19,9 @@ Takes f deep old x new = (depth : ℕ) → deep ≤ depth → converted f (data_
 -- the tokens begin with the items of a list, which are read as xs, and with the bracket that closes
 -- it; `new` are those after it
 abbrev pub TakesItems : {X : Type 0} → (Data → Option X) → ℕ → List Token → List X → List Token → Type 0
-TakesItems f deep old xs new = (depth : ℕ) → deep ≤ depth → (n : ℕ) → length old ≤ n → converted (all_of f) (converted of_items (items (value depth) n old)) ≡ Some (xs, new)
+TakesItems f deep old xs new =
+    (depth : ℕ) → deep ≤ depth → (n : ℕ) → length old ≤ n → converted (all_of f) (converted of_items (items (value depth) n old))
+    ≡ Some (xs, new)
 
 -- ---- objects
 
@@ -39,9 +41,11 @@ Fills f seen deep before old after new = (before ≡ None) × IsSomeAnd after (�
 -- the fields took one member more: this key, and the value that comes first
 abbrev pub Adds : {S : Type 0} → (S → Members → Type 0) → ℕ → List ℕ → S → List Token → S → List Token → Type 0
 Adds hold deep key before old after new =
-    (depth : ℕ) → deep ≤ depth → (d : Data) × (data_at depth old ≡ Some (d, new)) × ((ms : Members) → hold before ms → hold after (put key d ms))
+    (depth : ℕ) → deep ≤ depth → (d : Data) × (data_at depth old ≡ Some (d, new))
+    × ((ms : Members) → hold before ms → hold after (put key d ms))
 
 -- the fields took the members of an object, with the brace that closes it
 abbrev pub TakesMembers : {S : Type 0} → (S → Members → Type 0) → ℕ → List Token → S → List Token → Type 0
 TakesMembers hold deep old fields new =
-    (depth : ℕ) → deep ≤ depth → (ms : Members) × (converted (λ ms. of_members ms no_members) (members (value depth) (length old) old) ≡ Some (ms, new)) × hold fields ms
+    (depth : ℕ) → deep ≤ depth → (ms : Members)
+    × (converted (λ ms. of_members ms no_members) (members (value depth) (length old) old) ≡ Some (ms, new)) × hold fields ms

@@ -3,10 +3,10 @@
 //! A cursor takes only what is surely next. Where it is in doubt, as at an escape or at a number of
 //! many digits, it says so, and the text is read over its JSON value.
 
-ghost use Rattle.std.specs.Prelude.{◌≡◌, [], ◌∷◌, ◌++◌, ◌+◌, ◌^◌, ◌<◌, ◌≤◌, true, Some, None, IfSome, IsTrue, length, take, decimal, option_map};
+ghost use Rattle.std.specs.Prelude.{◌≡◌, [], ◌∷◌, ◌++◌, ◌+◌, ◌^◌, ◌<◌, ◌≤◌, true, Some, None, IfSome, IsNone, IsTrue, length, take, decimal, option_map};
 ghost use Rattle.std.specs.Bool.{OnFalse};
 ghost use Rattle.json.specs.Ascii.{quote, true_text, false_text};
-ghost use Rattle.json.specs.Token.{begin_object, begin_array, number, boolean};
+ghost use Rattle.json.specs.Token.{begin_object, begin_array, end_array, number, boolean};
 ghost use Rattle.json.specs.Word.{is_space, ends_word};
 ghost use Rattle.json.specs.Lex.{after_value, between, lex, may_begin, may_close, punctuate, tokens};
 ghost use Rattle.json.specs.Json.{after_end_array, read_key};
@@ -49,9 +49,19 @@ fn is_blank(byte: u8) -> bool
     (byte == b' ') | (byte == b'\t') | (byte == b'\n') | (byte == b'\r')
 }
 
-/// The text from its first byte on that is not blank.
+/// The text from its first byte on that is not blank: mostly the text itself.
 #[inline(always)]
 fn after_blanks(text: &[u8]) -> &[u8]
+    ensures { lex between result.now ≡ lex between text.now }
+{
+    match text {
+        [first, ..] if !is_blank(*first) => text,
+        _ => past_blanks(text),
+    }
+}
+
+/// The text from its first byte on that is not blank, where there may be many blanks.
+fn past_blanks(text: &[u8]) -> &[u8]
     ensures { lex between result.now ≡ lex between text.now }
 {
     let mut at = 0;
@@ -206,9 +216,26 @@ impl<'a> Cursor<'a> {
         }
     }
 
-    /// Goes on at the text behind a value, past a comma.
+    /// Goes on at the text behind a value, past a comma: mostly one stands there, or a bracket.
     #[inline(always)]
     fn go_on(&mut self, text: &'a [u8])
+        ensures { self.new ≡ punctuate after_value (lex between text.now) }
+    {
+        match text {
+            [b',', rest @ ..] => {
+                self.place = Expected::AfterComma;
+                self.rest = after_blanks(rest);
+            }
+            [b']', ..] => {
+                self.place = Expected::AfterValue;
+                self.rest = text;
+            }
+            _ => self.go_on_past_blanks(text),
+        }
+    }
+
+    /// Goes on at the text behind a value, past blanks and a comma.
+    fn go_on_past_blanks(&mut self, text: &'a [u8])
         ensures { self.new ≡ punctuate after_value (lex between text.now) }
     {
         let rest = after_blanks(text);
@@ -280,6 +307,24 @@ impl<'a> Cursor<'a> {
         let (value, rest) = short_number(self.rest)?;
         self.go_on(rest);
         Some(value)
+    }
+
+    /// Takes an array of two numbers of one digit each, if it surely comes next and has no blank.
+    #[inline(always)]
+    pub(crate) fn next_pair(&mut self) -> Option<(u64, u64)>
+        ensures taken { IfSome result (λ p. (p.0 < 10) × (p.1 < 10) × (self.old
+            ≡ begin_array ∷ number (decimal p.0) ∷ number (decimal p.1) ∷ end_array ∷ self.new)) }
+        ensures stays { IsNone result → self.new ≡ self.old }
+    {
+        match self.rest {
+            [b'[', first, b',', second, b']', rest @ ..]
+                if first.is_ascii_digit() && second.is_ascii_digit() && self.place.may_begin() => {
+                let pair = (digit_value(*first), digit_value(*second));
+                self.go_on(rest);
+                Some(pair)
+            }
+            _ => None,
+        }
     }
 
     /// The next token, if it is surely a truth value.

@@ -5,7 +5,7 @@
 
 ghost use Rattle.std.specs.Prelude.{ℕ, suc, map, IfOk, IfSome};
 ghost use Rattle.wf_draft.specs.Plain.{Takes, TakesItems};
-ghost use Rattle.wf_draft.specs.Shape.{list_of};
+ghost use Rattle.wf_draft.specs.Shape.{list_of, pair_of};
 
 use crate::cursor::Cursor;
 use crate::growing::{Growing, INLINE};
@@ -45,21 +45,33 @@ impl Plain for bool {
 impl Plain for (u64, u64) {
     ghost deep = { 1 };
 
+    #[inline(always)]
     fn plain(alloc: Global, cursor: &mut Cursor<'_>) -> Result<Option<(u64, u64)>, AllocError> {
-        if !cursor.take_begin_array() {
-            return Ok(None);
+        if let Some(pair) = cursor.next_pair() {
+            return Ok(Some(pair));
         }
-        let Some(first) = u64::plain(alloc, cursor)? else {
-            return Ok(None);
-        };
-        let Some(second) = u64::plain(alloc, cursor)? else {
-            return Ok(None);
-        };
-        if !cursor.take_end_array() {
-            return Ok(None);
-        }
-        Ok(Some((first, second)))
+        pair_by_tokens(alloc, cursor)
     }
+}
+
+/// A pair of any numbers, token by token.
+fn pair_by_tokens(alloc: Global, cursor: &mut Cursor<'_>) -> Result<Option<(u64, u64)>, AllocError>
+    ensures { IfOk result (λ found. IfSome found
+        (λ pair. Takes pair_of 1 cursor.old pair cursor.new)) }
+{
+    if !cursor.take_begin_array() {
+        return Ok(None);
+    }
+    let Some(first) = u64::plain(alloc, cursor)? else {
+        return Ok(None);
+    };
+    let Some(second) = u64::plain(alloc, cursor)? else {
+        return Ok(None);
+    };
+    if !cursor.take_end_array() {
+        return Ok(None);
+    }
+    Ok(Some((first, second)))
 }
 
 impl<T: Plain + Drop> Plain for Vec<T> {

@@ -49,7 +49,8 @@ pub the_line_feed_that_ends_it : steps_in (codes "-1 0\n") ≡ lemma 1 (neg 1 �
 the_line_feed_that_ends_it = refl
 
 -- what stands before a flaw is said
-pub a_word_that_is_no_literal : text_of (at_start 3) (codes "2 0\n1 x 0\n") ≡ record { steps = lemma 1 (pos 2 ∷ []) ∷ []; end = broken_in 2 NotALiteral }
+pub a_word_that_is_no_literal : text_of (at_start 3) (codes "2 0\n1 x 0\n")
+    ≡ record { steps = lemma 1 (pos 2 ∷ []) ∷ []; end = broken_in 2 NotALiteral }
 a_word_that_is_no_literal = refl
 
 pub a_zero_with_a_sign : end_of (codes "1 -0 ") ≡ broken_in 1 NotALiteral

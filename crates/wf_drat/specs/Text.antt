@@ -111,9 +111,11 @@ turn_of s byte = turn_behind s.reading s byte
 
 -- what is read then
 abbrev pub after : Turn → State → State
-after (GoesOn reading) s = record { variables = s.variables; line = s.line; reading = reading; is_deletion = s.is_deletion; clause = s.clause }
+after (GoesOn reading) s =
+    record { variables = s.variables; line = s.line; reading = reading; is_deletion = s.is_deletion; clause = s.clause }
 after BeginsDeletion s = record { variables = s.variables; line = s.line; reading = Blank; is_deletion = true; clause = s.clause }
-after (Takes literal) s = record { variables = s.variables; line = s.line; reading = Blank; is_deletion = s.is_deletion; clause = s.clause ++ literal ∷ [] }
+after (Takes literal) s =
+    record { variables = s.variables; line = s.line; reading = Blank; is_deletion = s.is_deletion; clause = s.clause ++ literal ∷ [] }
 after Ends s = record { variables = s.variables; line = s.line; reading = Blank; is_deletion = false; clause = [] }
 after (Stops flaw) s = s
 

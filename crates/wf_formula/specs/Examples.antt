@@ -8,11 +8,13 @@ use Rattle.wf_formula.specs.Patterns.{place_lists, minimal_patterns}
 use Rattle.wf_formula.specs.Encoding.{question}
 use Rattle.wf_formula.specs.Dimacs.{formula_text, question_text}
 
-pub choices_of_three_places : place_lists 3 ≡ [] ∷ (0 ∷ []) ∷ (1 ∷ []) ∷ (2 ∷ []) ∷ (0 ∷ 1 ∷ []) ∷ (0 ∷ 2 ∷ []) ∷ (1 ∷ 2 ∷ []) ∷ (0 ∷ 1 ∷ 2 ∷ []) ∷ []
+pub choices_of_three_places : place_lists 3
+    ≡ [] ∷ (0 ∷ []) ∷ (1 ∷ []) ∷ (2 ∷ []) ∷ (0 ∷ 1 ∷ []) ∷ (0 ∷ 2 ∷ []) ∷ (1 ∷ 2 ∷ []) ∷ (0 ∷ 1 ∷ 2 ∷ []) ∷ []
 choices_of_three_places = refl
 
 -- two values that agree
-pub patterns_of_agreement : minimal_patterns 2 (0 ∷ 1 ∷ []) ((0 ∷ 0 ∷ []) ∷ (1 ∷ 1 ∷ []) ∷ []) ≡ ((0, 0) ∷ (1, 1) ∷ []) ∷ ((0, 1) ∷ (1, 0) ∷ []) ∷ []
+pub patterns_of_agreement : minimal_patterns 2 (0 ∷ 1 ∷ []) ((0 ∷ 0 ∷ []) ∷ (1 ∷ 1 ∷ []) ∷ [])
+    ≡ ((0, 0) ∷ (1, 1) ∷ []) ∷ ((0, 1) ∷ (1, 0) ∷ []) ∷ []
 patterns_of_agreement = refl
 
 -- three values, not all different from 0: nothing smaller is forbidden
@@ -20,7 +22,8 @@ pub patterns_of_not_all_ones : minimal_patterns 3 (0 ∷ 1 ∷ []) ((0 ∷ 0 ∷
 patterns_of_not_all_ones = refl
 
 -- a value that occurs nowhere is forbidden alone; the others by size, places and values
-pub patterns_by_size : minimal_patterns 2 (0 ∷ 1 ∷ 2 ∷ []) ((0 ∷ 1 ∷ []) ∷ (0 ∷ 2 ∷ []) ∷ (1 ∷ 1 ∷ []) ∷ []) ≡ ((0, 2) ∷ []) ∷ ((1, 0) ∷ []) ∷ ((0, 1) ∷ (1, 2) ∷ []) ∷ []
+pub patterns_by_size : minimal_patterns 2 (0 ∷ 1 ∷ 2 ∷ []) ((0 ∷ 1 ∷ []) ∷ (0 ∷ 2 ∷ []) ∷ (1 ∷ 1 ∷ []) ∷ [])
+    ≡ ((0, 2) ∷ []) ∷ ((1, 0) ∷ []) ∷ ((0, 1) ∷ (1, 2) ∷ []) ∷ []
 patterns_by_size = refl
 
 -- a rule that allows nothing forbids the empty pattern, and that alone
@@ -42,7 +45,8 @@ pub consensus_formula : (question consensus 1).clauses ≡
 consensus_formula = refl
 
 -- without rounds a symmetric task has one point, which stands at both places of the last execution
-pub renaming_formula_without_rounds : (question renaming_2_2 0).clauses ≡ (pos 1 ∷ pos 2 ∷ []) ∷ (neg 1 ∷ neg 1 ∷ []) ∷ (neg 2 ∷ neg 2 ∷ []) ∷ []
+pub renaming_formula_without_rounds : (question renaming_2_2 0).clauses
+    ≡ (pos 1 ∷ pos 2 ∷ []) ∷ (neg 1 ∷ neg 1 ∷ []) ∷ (neg 2 ∷ neg 2 ∷ []) ∷ []
 renaming_formula_without_rounds = refl
 
 abbrev sizes : Task → ℕ → ℕ × ℕ
@@ -51,7 +55,8 @@ sizes t r = ((question t r).variables, length (question t r).clauses)
 pub path_3_sizes : sizes (path 3) 1 ≡ (16, 28)
 path_3_sizes = refl
 
-pub formula_text_of_consensus_without_rounds : formula_text (question consensus 0) ≡ codes "p cnf 4 6\n1 2 0\n3 4 0\n-2 0\n-3 0\n-1 -4 0\n-2 -3 0\n"
+pub formula_text_of_consensus_without_rounds : formula_text (question consensus 0)
+    ≡ codes "p cnf 4 6\n1 2 0\n3 4 0\n-2 0\n-3 0\n-1 -4 0\n-2 -3 0\n"
 unfolding digits
 formula_text_of_consensus_without_rounds = refl
 

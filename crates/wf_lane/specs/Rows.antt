@@ -49,7 +49,9 @@ is_one_of values word = has (part_values values) (value_of word)
 
 -- the value of each word of the row is in the set of its place
 abbrev pub is_among : List ℕ → Words → Bool
-is_among sets r = is_one_of (slice_index sets 0) r.first && is_one_of (slice_index sets 1) r.second && is_one_of (slice_index sets 2) r.third && is_one_of (slice_index sets 3) r.fourth
+is_among sets r =
+    is_one_of (slice_index sets 0) r.first && is_one_of (slice_index sets 1) r.second && is_one_of (slice_index sets 2) r.third
+    && is_one_of (slice_index sets 3) r.fourth
 
 -- one of these rows of a block has the value
 abbrev pub is_met : List ℕ → List ℕ → ℕ → ℕ → Bool
@@ -67,7 +69,9 @@ pub record IsCut (c : Column) : Type 0 where
   pub whole : c.values ≡ ors c.words.items
   pub starts : 0 < c.blocks → length c.starts.items ≡ 64
   pub within : (v : ℕ) → has (part_values c.values) v ≡ true → slice_index c.starts.items v + block_words * c.blocks ≤ length c.sets.items
-  pub marked : (v : ℕ) → has (part_values c.values) v ≡ true → chunk (slice_index c.starts.items v) (block_words * c.blocks) c.sets.items ≡ row_sets (is_value v) c.words.items 0 (block_words * c.blocks)
+  pub marked : (v : ℕ) → has (part_values c.values) v ≡ true
+      → chunk (slice_index c.starts.items v) (block_words * c.blocks) c.sets.items
+      ≡ row_sets (is_value v) c.words.items 0 (block_words * c.blocks)
 
 -- no row was cut yet
 pub record IsWhole (c : Column) : Type 0 where
@@ -88,7 +92,9 @@ ArePlaces values p = AreApart part_limit values p.words p.starts.items p.end
 
 -- each of these sets has the rows with its value
 abbrev pub AreMarked : ℕ → Places → List ℕ → List ℕ → Type 0
-AreMarked values p rows sets = (v k : ℕ) → has (part_values values) v ≡ true → k < p.words → slice_index sets (slice_index p.starts.items v + k) ≡ row_set (is_value v) rows (64 * k)
+AreMarked values p rows sets =
+    (v k : ℕ) → has (part_values values) v ≡ true → k < p.words → slice_index sets (slice_index p.starts.items v + k)
+    ≡ row_set (is_value v) rows (64 * k)
 
 -- the values all occur in the column
 abbrev pub OccurIn : Column → ℕ → Type 0

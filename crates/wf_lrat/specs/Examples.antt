@@ -64,7 +64,8 @@ an_id_too_large = refl
 abbrev refuted : Ledger
 refuted = record {
   variables = 2;
-  slots = None ∷ Some (pos 1 ∷ neg 2 ∷ []) ∷ Some (neg 1 ∷ pos 2 ∷ []) ∷ Some (neg 1 ∷ neg 2 ∷ []) ∷ Some (pos 1 ∷ []) ∷ None ∷ Some [] ∷ [];
+  slots = None ∷ Some (pos 1 ∷ neg 2 ∷ []) ∷ Some (neg 1 ∷ pos 2 ∷ []) ∷ Some (neg 1 ∷ neg 2 ∷ []) ∷ Some (pos 1 ∷ []) ∷ None
+      ∷ Some [] ∷ [];
   count = 6;
   is_refuted = true;
 }
@@ -86,7 +87,8 @@ pub a_group_left_out : verdict_of known 5 (pos 1 ∷ []) (against 3 ∷ to 1 ∷
 a_group_left_out = refl
 
 -- groups stand by ascending id
-pub groups_in_another_order : verdict_of known 5 (pos 1 ∷ []) (against 4 ∷ to 1 ∷ to 2 ∷ against 3 ∷ to 1 ∷ to 2 ∷ []) ≡ verdict.ClauseLeftOut
+pub groups_in_another_order : verdict_of known 5 (pos 1 ∷ []) (against 4 ∷ to 1 ∷ to 2 ∷ against 3 ∷ to 1 ∷ to 2 ∷ [])
+    ≡ verdict.ClauseLeftOut
 groups_in_another_order = refl
 
 pub a_group_without_a_conflict : verdict_of known 5 (pos 1 ∷ []) (against 3 ∷ against 4 ∷ to 1 ∷ to 2 ∷ []) ≡ verdict.NoConflict

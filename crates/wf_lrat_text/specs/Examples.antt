@@ -32,14 +32,16 @@ pub the_line_behind_them : end_of (codes "c 1 0\n9 1 0 4 0\n") ≡ open_in (in_l
 the_line_behind_them = refl
 
 -- the id in front of a deletion has no meaning
-pub a_deletion_and_the_empty_clause : steps_in (codes "9 d 3 4 0\n10 0 5 6 0\n") ≡ deletion (3 ∷ 4 ∷ []) ∷ addition 2 10 [] (to 5 ∷ to 6 ∷ []) ∷ []
+pub a_deletion_and_the_empty_clause : steps_in (codes "9 d 3 4 0\n10 0 5 6 0\n")
+    ≡ deletion (3 ∷ 4 ∷ []) ∷ addition 2 10 [] (to 5 ∷ to 6 ∷ []) ∷ []
 a_deletion_and_the_empty_clause = refl
 
 pub a_clause_without_hints : steps_in (codes "9 1 0 0\n") ≡ addition 1 9 (pos 1 ∷ []) [] ∷ []
 a_clause_without_hints = refl
 
 -- a step may span lines: its line is that of its last 0; and a line may have two
-pub a_step_in_two_lines : steps_in (codes "9 1 0\n4 0 10 2 0 5 0\n") ≡ addition 2 9 (pos 1 ∷ []) (to 4 ∷ []) ∷ addition 2 10 (pos 2 ∷ []) (to 5 ∷ []) ∷ []
+pub a_step_in_two_lines : steps_in (codes "9 1 0\n4 0 10 2 0 5 0\n")
+    ≡ addition 2 9 (pos 1 ∷ []) (to 4 ∷ []) ∷ addition 2 10 (pos 2 ∷ []) (to 5 ∷ []) ∷ []
 a_step_in_two_lines = refl
 
 -- the last 0 ends its step only with the byte behind it
@@ -48,7 +50,8 @@ pub no_line_feed_yet : text_of (at_start 3) (codes "9 -1 0 4 0")
 no_line_feed_yet = refl
 
 -- what stands before a flaw is said
-pub a_word_that_is_no_literal : text_of (at_start 3) (codes "9 2 0 4 0\n10 1 x 0\n") ≡ record { steps = addition 1 9 (pos 2 ∷ []) (to 4 ∷ []) ∷ []; end = broken_in 2 NotALiteral }
+pub a_word_that_is_no_literal : text_of (at_start 3) (codes "9 2 0 4 0\n10 1 x 0\n")
+    ≡ record { steps = addition 1 9 (pos 2 ∷ []) (to 4 ∷ []) ∷ []; end = broken_in 2 NotALiteral }
 a_word_that_is_no_literal = refl
 
 pub a_word_that_is_no_hint : end_of (codes "9 2 0 4 d 0\n") ≡ broken_in 1 NotALiteral

@@ -21,7 +21,8 @@ pub record AreDigits (bytes : List ℕ) (from : ℕ) (digits : NumberRead) : Typ
   pub forward : from ≤ digits.end
   pub within : digits.end ≤ length bytes
   pub first : from < digits.end → is_ascii_digit (get_or bytes from 0) ≡ true
-  pub same : (state : State) → (is_negative : Bool) → LeadsTo bytes (in_number state is_negative 0) from (in_number state is_negative digits.value) digits.end
+  pub same : (state : State) → (is_negative : Bool)
+      → LeadsTo bytes (in_number state is_negative 0) from (in_number state is_negative digits.value) digits.end
 
 -- nothing changes, or some bytes are read from a place on, in this state
 abbrev pub Moves : List ℕ → State → ℕ → State → State → Option ℕ → Type 0

@@ -3,7 +3,7 @@ pub use Rattle.wf_model.proofs.Ascending.{Ascends, ascends_filter, ascends_from,
 pub use Rattle.wf_model.proofs.Basics.{and_turned, below_next, by_place, equal_turned, has-filter, has_at-take, length-below, nat_cmp-Less, or_assoc, or_none, some_of, suc_not_zero}
 pub use Rattle.wf_model.proofs.CanonicalRefutations.{canonical_none_refutes}
 pub use Rattle.wf_model.proofs.CanonicalSteps.{Leaves, canonical_step, count_cons, count_set_less, length_filter, open_point}
-pub use Rattle.wf_model.proofs.ClosedBoxes.{closed_branch, closed_supports, each_with_value, solution_left}
+pub use Rattle.wf_model.proofs.ClosedBoxes.{closed_branch, each_with_value}
 pub use Rattle.wf_model.proofs.ClosingKeeps.{Ascending}
 pub use Rattle.wf_model.proofs.FaultlessLines.{accepted, root_accepted}
 pub use Rattle.wf_model.proofs.FilledOutlines.{boxes_append, boxes_outline, few_branches, filled_refutes}

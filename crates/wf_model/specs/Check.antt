@@ -34,7 +34,8 @@ pub data Verdict : Type 0 where
 
 abbrev pub removal_at : ℕ → ℕ → Box → List Box → Constraint → Option (ℕ × ℕ) → Verdict
 removal_at k a box boxes constraint None = fault (no_such k)
-removal_at k a box boxes constraint (Some at) = if is_supported_in constraint box at.0 a then fault (unsound k) else left (without box at.1 a ∷ boxes)
+removal_at k a box boxes constraint (Some at) =
+    if is_supported_in constraint box at.0 a then fault (unsound k) else left (without box at.1 a ∷ boxes)
 
 abbrev pub removal : ℕ → ℕ → ℕ → Box → List Box → Option Constraint → Verdict
 removal k c a box boxes None = fault (no_such k)
@@ -43,8 +44,11 @@ removal k c a box boxes (Some constraint) = removal_at k a box boxes constraint 
 -- the verdict of line k
 abbrev pub verdict : Problem → ℕ → Line → Box → List Box → Verdict
 verdict p k (remove e c a) box boxes = removal k c a box boxes (slice_get p.constraints e)
-verdict p k (empty v) box boxes = if nat_lt v p.points then (if length (candidates box v) == 0 then left boxes else fault (not_empty k)) else fault (no_such k)
-verdict p k (branch v) box boxes = if nat_lt v p.points then (if nat_lt 1 (length (candidates box v)) then left (branches_at box v ++ boxes) else fault (not_open k)) else fault (no_such k)
+verdict p k (empty v) box boxes =
+    if nat_lt v p.points then (if length (candidates box v) == 0 then left boxes else fault (not_empty k)) else fault (no_such k)
+verdict p k (branch v) box boxes =
+    if nat_lt v p.points then (if nat_lt 1 (length (candidates box v)) then left (branches_at box v ++ boxes)
+    else fault (not_open k)) else fault (no_such k)
 verdict p k found box boxes = fault (not_the_map k)
 
 abbrev pub after_verdict : Verdict → (List Box → Option Refusal) → Option Refusal
@@ -102,9 +106,12 @@ found_at k false ls = Some (not_the_map k)
 abbrev pub first_least_fault : Problem → List ℕ → ℕ → List Line → List Box → Option Refusal
 first_least_fault p m k [] boxes = Some unfinished
 first_least_fault p m k (l ∷ ls) [] = Some (trailing k)
-first_least_fault p m k (remove e c a ∷ ls) (box ∷ boxes) = after_verdict (least_verdict p k (remove e c a) box boxes) (first_least_fault p m (suc k) ls)
-first_least_fault p m k (empty v ∷ ls) (box ∷ boxes) = after_verdict (least_verdict p k (empty v) box boxes) (first_least_fault p m (suc k) ls)
-first_least_fault p m k (branch v ∷ ls) (box ∷ boxes) = after_verdict (least_verdict p k (branch v) box boxes) (first_least_fault p m (suc k) ls)
+first_least_fault p m k (remove e c a ∷ ls) (box ∷ boxes) =
+    after_verdict (least_verdict p k (remove e c a) box boxes) (first_least_fault p m (suc k) ls)
+first_least_fault p m k (empty v ∷ ls) (box ∷ boxes) =
+    after_verdict (least_verdict p k (empty v) box boxes) (first_least_fault p m (suc k) ls)
+first_least_fault p m k (branch v ∷ ls) (box ∷ boxes) =
+    after_verdict (least_verdict p k (branch v) box boxes) (first_least_fault p m (suc k) ls)
 first_least_fault p m k (found ∷ ls) (box ∷ boxes) = found_at k (is_exactly m box) ls
 
 -- ---- whole reports

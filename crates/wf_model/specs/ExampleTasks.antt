@@ -66,7 +66,11 @@ renaming_2_3 = record {
   least_block = None;
   delta = record { input = one 0 0; tuples = (0 ∷ []) ∷ (1 ∷ []) ∷ (2 ∷ []) ∷ [] }
       ∷ record { input = one 1 0; tuples = (0 ∷ []) ∷ (1 ∷ []) ∷ (2 ∷ []) ∷ [] }
-      ∷ record { input = edge 0 0; tuples = (0 ∷ 1 ∷ []) ∷ (0 ∷ 2 ∷ []) ∷ (1 ∷ 0 ∷ []) ∷ (1 ∷ 2 ∷ []) ∷ (2 ∷ 0 ∷ []) ∷ (2 ∷ 1 ∷ []) ∷ [] } ∷ [];
+      ∷ record {
+        input = edge 0 0;
+        tuples = (0 ∷ 1 ∷ []) ∷ (0 ∷ 2 ∷ []) ∷ (1 ∷ 0 ∷ []) ∷ (1 ∷ 2 ∷ []) ∷ (2 ∷ 0 ∷ [])
+            ∷ (2 ∷ 1 ∷ []) ∷ [];
+      } ∷ [];
   outputs = complex_of (edge 0 1 ∷ edge 0 2 ∷ edge 1 0 ∷ edge 1 2 ∷ edge 2 0 ∷ edge 2 1 ∷ []);
 }
 

@@ -14,17 +14,22 @@ use Rattle.wf_model.specs.Split.{split}
 use Rattle.wf_model.specs.AllSolutions.{all_solutions}
 
 -- the faces of a triangle: by size, and then as lists
-pub faces_of_a_triangle : complex_of (((0, 0) ∷ (1, 1) ∷ (2, 2) ∷ []) ∷ []) ≡ ((0, 0) ∷ []) ∷ ((1, 1) ∷ []) ∷ ((2, 2) ∷ []) ∷ ((0, 0) ∷ (1, 1) ∷ []) ∷ ((0, 0) ∷ (2, 2) ∷ []) ∷ ((1, 1) ∷ (2, 2) ∷ []) ∷ ((0, 0) ∷ (1, 1) ∷ (2, 2) ∷ []) ∷ []
+pub faces_of_a_triangle : complex_of (((0, 0) ∷ (1, 1) ∷ (2, 2) ∷ []) ∷ []) ≡ ((0, 0) ∷ []) ∷ ((1, 1) ∷ []) ∷ ((2, 2) ∷ [])
+    ∷ ((0, 0) ∷ (1, 1) ∷ []) ∷ ((0, 0) ∷ (2, 2) ∷ []) ∷ ((1, 1) ∷ (2, 2) ∷ []) ∷ ((0, 0) ∷ (1, 1) ∷ (2, 2) ∷ []) ∷ []
 faces_of_a_triangle = refl
 
-pub vertices_by_process : complex_of (((1, 0) ∷ []) ∷ ((0, 1) ∷ []) ∷ ((0, 0) ∷ []) ∷ []) ≡ ((0, 0) ∷ []) ∷ ((0, 1) ∷ []) ∷ ((1, 0) ∷ []) ∷ []
+pub vertices_by_process : complex_of (((1, 0) ∷ []) ∷ ((0, 1) ∷ []) ∷ ((0, 0) ∷ []) ∷ [])
+    ≡ ((0, 0) ∷ []) ∷ ((0, 1) ∷ []) ∷ ((1, 0) ∷ []) ∷ []
 vertices_by_process = refl
 
 -- an edge, itself, nothing, and an edge with another value
-pub faces_of_an_edge : map (λ t. is_face t ((0, 0) ∷ (2, 5) ∷ [])) (((2, 5) ∷ []) ∷ ((0, 0) ∷ (2, 5) ∷ []) ∷ [] ∷ ((0, 0) ∷ (2, 4) ∷ []) ∷ []) ≡ true ∷ true ∷ false ∷ false ∷ []
+pub faces_of_an_edge : map (λ t. is_face t ((0, 0) ∷ (2, 5) ∷ [])) (((2, 5) ∷ []) ∷ ((0, 0) ∷ (2, 5) ∷ []) ∷ []
+    ∷ ((0, 0) ∷ (2, 4) ∷ []) ∷ []) ≡ true ∷ true ∷ false ∷ false ∷ []
 faces_of_an_edge = refl
 
-pub words_of_three : words 1 3 ≡ (0 ∷ 0 ∷ 0 ∷ []) ∷ (0 ∷ 0 ∷ 1 ∷ []) ∷ (0 ∷ 1 ∷ 0 ∷ []) ∷ (0 ∷ 1 ∷ 1 ∷ []) ∷ (0 ∷ 1 ∷ 2 ∷ []) ∷ (0 ∷ 2 ∷ 1 ∷ []) ∷ (1 ∷ 0 ∷ 0 ∷ []) ∷ (1 ∷ 0 ∷ 1 ∷ []) ∷ (1 ∷ 0 ∷ 2 ∷ []) ∷ (1 ∷ 1 ∷ 0 ∷ []) ∷ (1 ∷ 2 ∷ 0 ∷ []) ∷ (2 ∷ 0 ∷ 1 ∷ []) ∷ (2 ∷ 1 ∷ 0 ∷ []) ∷ []
+pub words_of_three : words 1 3 ≡ (0 ∷ 0 ∷ 0 ∷ []) ∷ (0 ∷ 0 ∷ 1 ∷ []) ∷ (0 ∷ 1 ∷ 0 ∷ []) ∷ (0 ∷ 1 ∷ 1 ∷ []) ∷ (0 ∷ 1 ∷ 2 ∷ [])
+    ∷ (0 ∷ 2 ∷ 1 ∷ []) ∷ (1 ∷ 0 ∷ 0 ∷ []) ∷ (1 ∷ 0 ∷ 1 ∷ []) ∷ (1 ∷ 0 ∷ 2 ∷ []) ∷ (1 ∷ 1 ∷ 0 ∷ []) ∷ (1 ∷ 2 ∷ 0 ∷ [])
+    ∷ (2 ∷ 0 ∷ 1 ∷ []) ∷ (2 ∷ 1 ∷ 0 ∷ []) ∷ []
 words_of_three = refl
 
 -- 1, 3, 13 and 75 words of one to four participants
@@ -55,7 +60,8 @@ answer t r = let p = problem_of t r in ((canonical p (root p)).lines, (canonical
 pub path_3_map : (answer (path 3) 1).1 ≡ Some (0 ∷ 3 ∷ 2 ∷ 1 ∷ [])
 path_3_map = refl
 
-pub path_3_refuted_without_rounds : answer (path 3) 0 ≡ (remove 0 0 1 ∷ remove 0 0 2 ∷ remove 0 0 3 ∷ remove 1 1 0 ∷ remove 1 1 1 ∷ remove 1 1 2 ∷ remove 2 0 0 ∷ empty 0 ∷ [], None)
+pub path_3_refuted_without_rounds : answer (path 3) 0
+    ≡ (remove 0 0 1 ∷ remove 0 0 2 ∷ remove 0 0 3 ∷ remove 1 1 0 ∷ remove 1 1 1 ∷ remove 1 1 2 ∷ remove 2 0 0 ∷ empty 0 ∷ [], None)
 path_3_refuted_without_rounds = refl
 
 pub path_2_map : (answer (path 2) 1).1 ≡ Some (0 ∷ 2 ∷ 1 ∷ 0 ∷ [])
@@ -67,21 +73,32 @@ consensus_refuted_without_rounds = refl
 pub consensus_refuted : answer consensus 1 ≡ (remove 0 0 1 ∷ remove 1 1 0 ∷ remove 3 1 1 ∷ remove 4 0 0 ∷ remove 2 0 1 ∷ empty 2 ∷ [], None)
 consensus_refuted = refl
 
-pub renaming_with_two_names_refuted : answer renaming_2_2 1 ≡ (branch 0 ∷ remove 3 1 0 ∷ remove 4 0 0 ∷ remove 2 0 1 ∷ empty 1 ∷ remove 3 1 1 ∷ remove 4 0 1 ∷ remove 2 0 0 ∷ empty 1 ∷ [], None)
+pub renaming_with_two_names_refuted : answer renaming_2_2 1
+    ≡ (branch 0 ∷ remove 3 1 0 ∷ remove 4 0 0 ∷ remove 2 0 1 ∷ empty 1 ∷ remove 3 1 1 ∷ remove 4 0 1 ∷ remove 2 0 0 ∷ empty 1 ∷ [], None)
 renaming_with_two_names_refuted = refl
 
-pub renaming_with_three_names_refuted_without_rounds : answer renaming_2_3 0 ≡ (branch 0 ∷ remove 2 0 0 ∷ empty 0 ∷ remove 2 0 1 ∷ empty 0 ∷ remove 2 0 2 ∷ empty 0 ∷ [], None)
+pub renaming_with_three_names_refuted_without_rounds : answer renaming_2_3 0
+    ≡ (branch 0 ∷ remove 2 0 0 ∷ empty 0 ∷ remove 2 0 1 ∷ empty 0 ∷ remove 2 0 2 ∷ empty 0 ∷ [], None)
 renaming_with_three_names_refuted_without_rounds = refl
 
 pub path_2_has_three_branches : length (split (problem_of (path 2) 1)) ≡ 3
 path_2_has_three_branches = refl
 
-pub path_2_search : answer (path 2) 1 ≡ (remove 0 0 1 ∷ remove 0 0 2 ∷ remove 1 1 0 ∷ remove 1 1 1 ∷ remove 3 1 2 ∷ remove 4 0 0 ∷ branch 2 ∷ branch 3 ∷ found ∷ [], Some (0 ∷ 2 ∷ 1 ∷ 0 ∷ []))
+pub path_2_search : answer (path 2) 1 ≡ (
+  remove 0 0 1 ∷ remove 0 0 2 ∷ remove 1 1 0 ∷ remove 1 1 1 ∷ remove 3 1 2
+      ∷ remove 4 0 0 ∷ branch 2 ∷ branch 3 ∷ found ∷ [],
+  Some (0 ∷ 2 ∷ 1 ∷ 0 ∷ []),
+)
 path_2_search = refl
 
 -- one point at both places of an execution: the value that both lose has one line
 abbrev one_point_twice : Problem
-one_point_twice = record { points = 1; values = 0 ∷ 1 ∷ 2 ∷ []; constraints = record { scope = (0, 0) ∷ (1, 0) ∷ []; tuples = (0 ∷ 0 ∷ []) ∷ (1 ∷ 1 ∷ []) ∷ [] } ∷ [] }
+one_point_twice =
+    record {
+      points = 1;
+      values = 0 ∷ 1 ∷ 2 ∷ [];
+      constraints = record { scope = (0, 0) ∷ (1, 0) ∷ []; tuples = (0 ∷ 0 ∷ []) ∷ (1 ∷ 1 ∷ []) ∷ [] } ∷ [];
+    }
 
 pub a_candidate_has_one_line : (closing one_point_twice (root one_point_twice)).lines ≡ remove 0 0 2 ∷ []
 a_candidate_has_one_line = refl
@@ -106,7 +123,8 @@ words_by_blocks = refl
 pub path_3_has_one_solution : all_solutions (problem_of (path 3) 1) ≡ (0 ∷ 3 ∷ 2 ∷ 1 ∷ []) ∷ []
 path_3_has_one_solution = refl
 
-pub path_2_has_three_solutions : all_solutions (problem_of (path 2) 1) ≡ (0 ∷ 2 ∷ 1 ∷ 0 ∷ []) ∷ (0 ∷ 2 ∷ 1 ∷ 1 ∷ []) ∷ (0 ∷ 2 ∷ 2 ∷ 1 ∷ []) ∷ []
+pub path_2_has_three_solutions : all_solutions (problem_of (path 2) 1)
+    ≡ (0 ∷ 2 ∷ 1 ∷ 0 ∷ []) ∷ (0 ∷ 2 ∷ 1 ∷ 1 ∷ []) ∷ (0 ∷ 2 ∷ 2 ∷ 1 ∷ []) ∷ []
 path_2_has_three_solutions = refl
 
 pub consensus_has_no_solution : all_solutions (problem_of consensus 1) ≡ []

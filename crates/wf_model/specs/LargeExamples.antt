@@ -44,7 +44,8 @@ agreement_4_points = refl
 
 -- at two points: the first may have any of n values, the second 0 or 1
 abbrev free_and_bit : ℕ → Problem
-free_and_bit n = record { points = 2; values = below n; constraints = record { scope = (0, 1) ∷ []; tuples = (0 ∷ []) ∷ (1 ∷ []) ∷ [] } ∷ [] }
+free_and_bit n =
+    record { points = 2; values = below n; constraints = record { scope = (0, 1) ∷ []; tuples = (0 ∷ []) ∷ (1 ∷ []) ∷ [] } ∷ [] }
 
 pub sixty_three_boxes_are_cut_on : length (split (free_and_bit 63)) ≡ 126
 sixty_three_boxes_are_cut_on = refl
@@ -55,7 +56,16 @@ sixty_four_boxes_are_enough = refl
 -- each of n points has 0 or 1, and no later one has more: a level decides one
 -- box, and leaves one open
 abbrev falling : ℕ → Problem
-falling n = record { points = n + 1; values = 0 ∷ 1 ∷ []; constraints = map (λ v. record { scope = (0, v) ∷ (1, v + 1) ∷ []; tuples = (0 ∷ 0 ∷ []) ∷ (1 ∷ 0 ∷ []) ∷ (1 ∷ 1 ∷ []) ∷ [] }) (below n) }
+falling n =
+    record {
+      points = n + 1;
+      values = 0 ∷ 1 ∷ [];
+      constraints = map (λ v. record {
+        scope = (0, v) ∷ (1, v + 1) ∷ [];
+        tuples = (0 ∷ 0 ∷ []) ∷ (1 ∷ 0 ∷ [])
+            ∷ (1 ∷ 1 ∷ []) ∷ [];
+      }) (below n);
+    }
 
 pub eight_levels_are_made : length (split (falling 9)) ≡ 9
 eight_levels_are_made = refl

@@ -50,7 +50,8 @@ opened_if true p items next = next (flat_map (opened p) items)
 -- at most n levels, and none once there are enough boxes or no open one
 abbrev pub opened_levels : ℕ → Problem → List Item → List Item
 opened_levels zero p items = items
-opened_levels (suc n) p items = opened_if (nat_lt (length (boxes_left_out items)) enough_boxes && list_any is_open (boxes_left_out items)) p items (opened_levels n p)
+opened_levels (suc n) p items =
+    opened_if (nat_lt (length (boxes_left_out items)) enough_boxes && list_any is_open (boxes_left_out items)) p items (opened_levels n p)
 
 -- the root of a problem, cut into its branches
 abbrev pub outline : Problem → List Item

@@ -38,7 +38,8 @@ values t = in_order nat_cmp (flat_map values_of t.outputs)
 
 -- each value of a tuple occurs in O
 abbrev pub HasListedValues : Task → Type 0
-HasListedValues t = AllByRecursion (λ rule. AllByRecursion (λ tuple. AllByRecursion (λ x. has (values t) x ≡ true) tuple) rule.tuples) t.delta
+HasListedValues t =
+    AllByRecursion (λ rule. AllByRecursion (λ tuple. AllByRecursion (λ x. has (values t) x ≡ true) tuple) rule.tuples) t.delta
 
 -- ---- what every task that was read or made has
 

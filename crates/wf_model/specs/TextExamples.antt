@@ -15,80 +15,87 @@ use Rattle.wf_model.specs.Check.{first_fault, first_least_fault, map_fault, repo
 abbrev path_3_report : Report
 path_3_report = record { processes = 2; rounds = 1; points = 4; executions = 5; body = a_map (0 ∷ 3 ∷ 2 ∷ 1 ∷ []) }
 
-pub path_3_text : report_text path_3_report ≡ codes "wfcheck report 1\nprocesses 2\nrounds 1\npoints 4\nexecutions 5\nanswer map\nm 0\nm 3\nm 2\nm 1\nend\n"
+pub path_3_text : report_text path_3_report
+    ≡ codes "wfcheck report 1\nprocesses 2\nrounds 1\npoints 4\nexecutions 5\nanswer map\nm 0\nm 3\nm 2\nm 1\nend\n"
 unfolding digits
 path_3_text = refl
 
-pub path_3_reads : report_of 1 (codes "wfcheck report 1\nprocesses 2\nrounds 1\npoints 4\nexecutions 5\nanswer map\nm 0\nm 3\nm 2\nm 1\nend\n") ≡ Ok path_3_report
+pub path_3_reads : report_of (codes "wfcheck report 1\nprocesses 2\nrounds 1\npoints 4\nexecutions 5\nanswer map\nm 0\nm 3\nm 2\nm 1\nend\n") ≡ Ok path_3_report
 path_3_reads = refl
 
 -- the least map of path 2, with the lines of the search up to it
 abbrev path_2_least_report : Report
-path_2_least_report = record { processes = 2; rounds = 1; points = 4; executions = 5; body = least (0 ∷ 2 ∷ 1 ∷ 0 ∷ []) (remove 0 0 1 ∷ remove 0 0 2 ∷ remove 1 1 0 ∷ remove 1 1 1 ∷ remove 3 1 2 ∷ remove 4 0 0 ∷ branch 2 ∷ branch 3 ∷ found ∷ []) }
+path_2_least_report =
+    record {
+      processes = 2;
+      rounds = 1;
+      points = 4;
+      executions = 5;
+      body = least (0 ∷ 2 ∷ 1 ∷ 0 ∷ []) (remove 0 0 1 ∷ remove 0 0 2 ∷ remove 1 1 0 ∷ remove 1 1 1 ∷ remove 3 1 2 ∷ remove 4 0 0
+          ∷ branch 2 ∷ branch 3 ∷ found ∷ []);
+    }
 
-pub path_2_least_text : report_text path_2_least_report ≡ codes "wfcheck report 1\nprocesses 2\nrounds 1\npoints 4\nexecutions 5\nanswer least\nm 0\nm 2\nm 1\nm 0\np 0 0 1\np 0 0 2\np 1 1 0\np 1 1 1\np 3 1 2\np 4 0 0\nb 2\nb 3\nf\nend\n"
+pub path_2_least_text : report_text path_2_least_report
+    ≡ codes "wfcheck report 1\nprocesses 2\nrounds 1\npoints 4\nexecutions 5\nanswer least\nm 0\nm 2\nm 1\nm 0\np 0 0 1\np 0 0 2\np 1 1 0\np 1 1 1\np 3 1 2\np 4 0 0\nb 2\nb 3\nf\nend\n"
 unfolding digits
 path_2_least_text = refl
 
 pub path_2_least_holds : report_fault (path 2) 1 path_2_least_report ≡ None
 path_2_least_holds = refl
 
-pub leading_zero : report_of 1 (codes "wfcheck report 1\nprocesses 2\nrounds 1\npoints 4\nexecutions 5\nanswer none\np 03 1 0\nend\n") ≡ Err 7
+pub leading_zero : report_of (codes "wfcheck report 1\nprocesses 2\nrounds 1\npoints 4\nexecutions 5\nanswer none\np 03 1 0\nend\n") ≡ Err 7
 leading_zero = refl
 
-pub no_end : report_of 1 (codes "wfcheck report 1\nprocesses 2\n") ≡ Err 3
+pub no_end : report_of (codes "wfcheck report 1\nprocesses 2\n") ≡ Err 3
 no_end = refl
 
-pub after_end : report_of 1 (codes "wfcheck report 1\nprocesses 2\nrounds 1\npoints 4\nexecutions 5\nanswer map\nm 0\nend\nend\n") ≡ Err 9
+pub after_end : report_of (codes "wfcheck report 1\nprocesses 2\nrounds 1\npoints 4\nexecutions 5\nanswer map\nm 0\nend\nend\n") ≡ Err 9
 after_end = refl
 
-pub no_feed : report_of 1 (codes "wfcheck report 1\nprocesses 2\nrounds 1\npoints 4\nexecutions 5\nanswer map\nm 0\nend") ≡ Err 8
+pub no_feed : report_of (codes "wfcheck report 1\nprocesses 2\nrounds 1\npoints 4\nexecutions 5\nanswer map\nm 0\nend") ≡ Err 8
 no_feed = refl
 
-pub no_text : report_of 1 [] ≡ Err 1
+pub no_text : report_of [] ≡ Err 1
 no_text = refl
 
-pub too_large_a_number : report_of 1 (codes "wfcheck report 1\nprocesses 2\nrounds 1\npoints 4294967296\n") ≡ Err 4
+pub too_large_a_number : report_of (codes "wfcheck report 1\nprocesses 2\nrounds 1\npoints 4294967296\n") ≡ Err 4
 too_large_a_number = refl
 
-pub a_carriage_return : report_of 1 (codes "wfcheck report 1\nprocesses 2\nrounds 1\npoints 4\r\n") ≡ Err 4
+pub a_carriage_return : report_of (codes "wfcheck report 1\nprocesses 2\nrounds 1\npoints 4\r\n") ≡ Err 4
 a_carriage_return = refl
 
--- what a text reads as that goes on so after line 5, by the newest version of task files
-abbrev reads : ℕ → List ℕ → Reading Report
-reads newest rest = report_of newest (codes "wfcheck report 1\nprocesses 2\nrounds 1\npoints 4\nexecutions 5\n" ++ rest)
+-- what a text reads as that goes on so after line 5
+abbrev reads : List ℕ → Reading Report
+reads rest = report_of (codes "wfcheck report 1\nprocesses 2\nrounds 1\npoints 4\nexecutions 5\n" ++ rest)
 
 abbrev report_with : Body → Report
 report_with body = record { processes = 2; rounds = 1; points = 4; executions = 5; body = body }
 
-pub two_spaces : reads 1 (codes "answer none\nz  0\nend\n") ≡ Err 7
+pub two_spaces : reads (codes "answer none\nz  0\nend\n") ≡ Err 7
 two_spaces = refl
 
-pub a_value_above_63 : reads 1 (codes "answer map\nm 64\nend\n") ≡ Err 7
+pub a_value_above_63 : reads (codes "answer map\nm 64\nend\n") ≡ Ok (report_with (a_map (64 ∷ [])))
 a_value_above_63 = refl
 
-pub a_value_above_63_in_version_2 : reads 2 (codes "answer map\nm 64\nend\n") ≡ Ok (report_with (a_map (64 ∷ [])))
-a_value_above_63_in_version_2 = refl
+pub a_value_above_255 : reads (codes "answer map\nm 256\nend\n") ≡ Err 7
+a_value_above_255 = refl
 
-pub a_value_above_255_in_version_2 : reads 2 (codes "answer map\nm 256\nend\n") ≡ Err 7
-a_value_above_255_in_version_2 = refl
-
-pub a_fifth_process : reads 1 (codes "answer none\np 0 4 0\nend\n") ≡ Err 7
+pub a_fifth_process : reads (codes "answer none\np 0 4 0\nend\n") ≡ Err 7
 a_fifth_process = refl
 
-pub a_value_in_a_refutation : reads 1 (codes "answer none\nz 0\nm 0\nend\n") ≡ Err 8
+pub a_value_in_a_refutation : reads (codes "answer none\nz 0\nm 0\nend\n") ≡ Err 8
 a_value_in_a_refutation = refl
 
-pub a_step_in_a_map : reads 1 (codes "answer map\nm 0\nz 0\nend\n") ≡ Err 8
+pub a_step_in_a_map : reads (codes "answer map\nm 0\nz 0\nend\n") ≡ Err 8
 a_step_in_a_map = refl
 
-pub a_least_report : reads 2 (codes "answer least\nm 0\nz 0\nf\nend\n") ≡ Ok (report_with (least (0 ∷ []) (empty 0 ∷ found ∷ [])))
+pub a_least_report : reads (codes "answer least\nm 0\nz 0\nf\nend\n") ≡ Ok (report_with (least (0 ∷ []) (empty 0 ∷ found ∷ [])))
 a_least_report = refl
 
-pub a_value_after_the_lines : reads 2 (codes "answer least\nm 0\nz 0\nm 0\nend\n") ≡ Err 9
+pub a_value_after_the_lines : reads (codes "answer least\nm 0\nz 0\nm 0\nend\n") ≡ Err 9
 a_value_after_the_lines = refl
 
-pub found_in_a_refutation : reads 2 (codes "answer none\nf\nend\n") ≡ Err 7
+pub found_in_a_refutation : reads (codes "answer none\nf\nend\n") ≡ Err 7
 found_in_a_refutation = refl
 
 -- ---- reports about path 3 after one round
@@ -98,7 +105,8 @@ path_3_report_holds = refl
 
 -- the first header line that differs
 pub other_header : map (report_fault (path 3) 1)
-    (record path_3_report { processes = 3; rounds = 2 } ∷ record path_3_report { rounds = 2; points = 5 } ∷ record path_3_report { points = 5; executions = 6 } ∷ record path_3_report { executions = 6; body = a_map [] } ∷ [])
+    (record path_3_report { processes = 3; rounds = 2 } ∷ record path_3_report { rounds = 2; points = 5 }
+    ∷ record path_3_report { points = 5; executions = 6 } ∷ record path_3_report { executions = 6; body = a_map [] } ∷ [])
     ≡ Some (wrong_header 2) ∷ Some (wrong_header 3) ∷ Some (wrong_header 4) ∷ Some (wrong_header 5) ∷ []
 other_header = refl
 
@@ -119,14 +127,24 @@ pub lines_are_numbered : map (report_fault (path 3) 1)
 lines_are_numbered = refl
 
 pub lines_after_one_value :
-    report_fault (alone ((5 ∷ []) ∷ []) (((0, 5) ∷ []) ∷ [])) 1 (record { processes = 1; rounds = 1; points = 1; executions = 1; body = least (5 ∷ []) (empty 0 ∷ []) }) ≡ Some (not_empty 8)
+    report_fault (alone ((5 ∷ []) ∷ []) (((0, 5) ∷ []) ∷ [])) 1 (record {
+      processes = 1;
+      rounds = 1;
+      points = 1;
+      executions = 1;
+      body = least (5 ∷ []) (empty 0 ∷ []);
+    }) ≡ Some (not_empty 8)
 lines_after_one_value = refl
 
-pub no_decision_map_is_least : report_fault (path 3) 1 (record path_3_report { body = least (0 ∷ 3 ∷ 2 ∷ 2 ∷ []) (found ∷ []) }) ≡ Some (violates 3)
+pub no_decision_map_is_least : report_fault (path 3) 1 (record path_3_report {
+  body = least (0 ∷ 3 ∷ 2
+      ∷ 2 ∷ []) (found ∷ []);
+}) ≡ Some (violates 3)
 no_decision_map_is_least = refl
 
 abbrev checked : List Line → List Line → Option Refusal
-checked before after = let p = problem_of renaming_2_2 1 in first_fault p 7 (before ++ ((canonical p (root p)).lines ++ after)) (root p ∷ [])
+checked before after =
+    let p = problem_of renaming_2_2 1 in first_fault p 7 (before ++ ((canonical p (root p)).lines ++ after)) (root p ∷ [])
 
 pub canonical_lines_hold : checked [] [] ≡ None
 canonical_lines_hold = refl
@@ -140,7 +158,8 @@ a_supported_value = refl
 pub a_point_with_candidates : checked (empty 0 ∷ []) [] ≡ Some (not_empty 7)
 a_point_with_candidates = refl
 
-pub a_branch_with_one_candidate : let p = problem_of consensus 0 in first_fault p 7 (remove 0 0 1 ∷ remove 1 1 0 ∷ branch 0 ∷ []) (root p ∷ []) ≡ Some (not_open 9)
+pub a_branch_with_one_candidate : let p = problem_of consensus 0 in first_fault p 7 (remove 0 0 1 ∷ remove 1 1 0
+    ∷ branch 0 ∷ []) (root p ∷ []) ≡ Some (not_open 9)
 a_branch_with_one_candidate = refl
 
 pub no_such_execution : checked (remove 9 0 0 ∷ []) [] ≡ Some (no_such 7)
@@ -180,13 +199,15 @@ no_found = refl
 pub after_found : least_checked (0 ∷ 2 ∷ 1 ∷ 0 ∷ []) (branch 2 ∷ branch 3 ∷ found ∷ empty 0 ∷ []) ≡ Some (trailing 20)
 after_found = refl
 
-pub renaming_views : views_text renaming_2_2 1 ≡ codes "wfcheck views 1\nprocesses 2\nrounds 1\nsimplices 3\nviews 4\npoints 3\nexecutions 5\nv 0 0 0\nv 1 2 0\nv 2 2 1\nend\n"
+pub renaming_views : views_text renaming_2_2 1
+    ≡ codes "wfcheck views 1\nprocesses 2\nrounds 1\nsimplices 3\nviews 4\npoints 3\nexecutions 5\nv 0 0 0\nv 1 2 0\nv 2 2 1\nend\n"
 unfolding digits
 renaming_views = refl
 
 -- ---- points in words
 
-pub path_3_points : points_text (path 3) 1 (0 ∷ 3 ∷ 2 ∷ 1 ∷ []) ≡ codes "0 p0 saw {p0=0} decides 0\n1 p1 saw {p1=0} decides 3\n2 p0 saw {p0=0, p1=0} decides 2\n3 p1 saw {p0=0, p1=0} decides 1\n"
+pub path_3_points : points_text (path 3) 1 (0 ∷ 3 ∷ 2 ∷ 1 ∷ [])
+    ≡ codes "0 p0 saw {p0=0} decides 0\n1 p1 saw {p1=0} decides 3\n2 p0 saw {p0=0, p1=0} decides 2\n3 p1 saw {p0=0, p1=0} decides 1\n"
 unfolding digits
 path_3_points = refl
 
@@ -195,6 +216,7 @@ unfolding digits
 points_by_ranks = refl
 
 -- a view of two rounds
-pub a_view_of_views : view_text false (seen 1 (views_of (seen 0 (views_of (base 0 7 ∷ [])) ∷ seen 1 (views_of (base 0 7 ∷ base 1 12 ∷ [])) ∷ []))) ≡ codes "p1 saw {p0 saw {p0=7}, p1 saw {p0=7, p1=12}}"
+pub a_view_of_views : view_text false (seen 1 (views_of (seen 0 (views_of (base 0 7 ∷ []))
+    ∷ seen 1 (views_of (base 0 7 ∷ base 1 12 ∷ [])) ∷ []))) ≡ codes "p1 saw {p0 saw {p0=7}, p1 saw {p0=7, p1=12}}"
 unfolding digits
 a_view_of_views = refl

@@ -80,7 +80,8 @@ AreKnown ks answers = All (IsKnown ks) answers
 -- an answer for candidates below 64 as one for sets
 abbrev pub answer_seen : Option RevisedParts → Option Revised
 answer_seen None = None
-answer_seen (Some known) = Some (record { execution = known.execution; candidates = widened known.candidates; supported = widened known.supported })
+answer_seen (Some known) =
+    Some (record { execution = known.execution; candidates = widened known.candidates; supported = widened known.supported })
 
 abbrev pub IsKnownParts : List Constraint → Option RevisedParts → Type 0
 IsKnownParts ks known = IsKnown ks (answer_seen known)

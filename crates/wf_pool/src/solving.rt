@@ -216,6 +216,7 @@ fn branches_of(
     ensures cover { IfOk result (IsCoverOf problem.now) }
     ensures answers { OnOk result (ServeFor problem.now answers.new) }
 {
+    // for the proof alone, which reads what holds of every problem
     let _points = problem.points();
     split_with(alloc, problem, answers)
 }

@@ -51,4 +51,5 @@ abbrev pub ServingIsCounted : {F : Type 0} → Opens → Filing F → Type 0
 ServingIsCounted {F = F} opens folder =
     (words : GivenWords) (folder' : Filing F) (source source' : Reading) (sink sink' errors errors' : Writing) (status : ℕ)
     → Serves opens words folder folder' source source' sink sink' errors errors' status
-    → (asked : Result Job WordsFault) × IsAsked job_asked words asked × IsServed asked folder folder' source source' sink sink' errors errors' status
+    → (asked : Result Job WordsFault) × IsAsked job_asked words asked
+    × IsServed asked folder folder' source source' sink sink' errors errors' status

@@ -107,8 +107,10 @@ abbrev pub DoesOne : Type 0 → Type 1
 DoesOne X = Reading → Reading → Writing → Writing → Result X RunFault → Type 0
 
 -- this was done, and what is answered says how it ended
-abbrev pub Ending : {X : Type 0} → (Result X RunFault → Result Done Refusal) → DoesOne X → Reading → Reading → Writing → Writing → Result Done Refusal → Type 0
-Ending {X = X} end does source source' sink sink' done = (result : Result X RunFault) × does source source' sink sink' result × (done ≡ end result)
+abbrev pub Ending : {X : Type 0} → (Result X RunFault → Result Done Refusal) → DoesOne X → Reading → Reading → Writing → Writing
+    → Result Done Refusal → Type 0
+Ending {X = X} end does source source' sink sink' done =
+    (result : Result X RunFault) × does source source' sink sink' result × (done ≡ end result)
 
 -- ---- what is done with the task in a file
 
@@ -134,7 +136,8 @@ DoesWithFile filed.Explain = Explains
 DoesWithFile (filed.Lift rounds) = Lifts rounds
 
 -- what a job does with the task in a file was done
-abbrev pub DoesFile : {F : Type 0} → (Opening → Type 0) → FileJob → Filing F → Filing F → Reading → Reading → Writing → Writing → Result Done Refusal → Type 0
+abbrev pub DoesFile : {F : Type 0} → (Opening → Type 0) → FileJob → Filing F → Filing F → Reading → Reading → Writing → Writing
+    → Result Done Refusal → Type 0
 DoesFile comes what folder folder' source source' sink sink' done =
     (result : Result (Unit {0}) RunFault) × WithFile comes (DoesWithFile what) folder folder' source source' sink sink' result
     × (done ≡ finished (as_file_refusal (state_of folder'.kept) result))
@@ -161,7 +164,8 @@ WritesTextOf (text.Preset preset) = WritesPresetAlone preset
 
 -- by one worker the branches are searched in their order
 abbrev pub SolvesBy : ℕ → ℕ → Form → DoesOne (Outcome × core.Account)
-SolvesBy workers rounds form source source' sink sink' result = Solves rounds form source source' sink sink' result × (workers ≡ 1 → SearchesInOrder result)
+SolvesBy workers rounds form source source' sink sink' result =
+    Solves rounds form source source' sink sink' result × (workers ≡ 1 → SearchesInOrder result)
 
 -- the source's task was decided, with an account or without one
 abbrev pub DecidesTask : Bool → ℕ → ℕ → Form → Reading → Reading → Writing → Writing → Result Done Refusal → Type 0
@@ -181,7 +185,8 @@ DoesAlone (lone.Text what) = Ending written (WritesTextOf what)
 abbrev pub Does : {F : Type 0} → Opens → Job → Filing F → Filing F → Reading → Reading → Writing → Writing → Result Done Refusal → Type 0
 Does opens (job.WithFile task what) folder folder' source source' sink sink' done =
     DoesFile (opens (string_bytes task)) what folder folder' source source' sink sink' done
-Does opens (job.Alone what) folder folder' source source' sink sink' done = (folder' ≡ folder) × DoesAlone what source source' sink sink' done
+Does opens (job.Alone what) folder folder' source source' sink sink' done =
+    (folder' ≡ folder) × DoesAlone what source source' sink sink' done
 
 -- there is no job in the words: a help or the version was shown, or they are refused
 abbrev pub DeclinesWords : WordsFault → Writing → Writing → Result Done Refusal → Type 0
@@ -189,9 +194,11 @@ DeclinesWords e sink sink' done =
     (result : Result (Unit {0}) Refusal) × DeclinesAs (codes "wfcheck") e sink sink' result × (done ≡ finished result)
 
 -- the job was done; or there is none, and nothing was read, and no file was asked for
-abbrev pub DoesAsked : {F : Type 0} → Opens → Result Job WordsFault → Filing F → Filing F → Reading → Reading → Writing → Writing → Result Done Refusal → Type 0
+abbrev pub DoesAsked : {F : Type 0} → Opens → Result Job WordsFault → Filing F → Filing F → Reading → Reading → Writing → Writing
+    → Result Done Refusal → Type 0
 DoesAsked opens (Ok asked) folder folder' source source' sink sink' done = Does opens asked folder folder' source source' sink sink' done
-DoesAsked opens (Err e) folder folder' source source' sink sink' done = (folder' ≡ folder) × (source' ≡ source) × DeclinesWords e sink sink' done
+DoesAsked opens (Err e) folder folder' source source' sink sink' done =
+    (folder' ≡ folder) × (source' ≡ source) × DeclinesWords e sink sink' done
 
 -- ---- a whole run
 
@@ -201,7 +208,8 @@ Ends errors errors' (Ok done) result = (result ≡ done.status) × TellsNote err
 Ends errors errors' (Err e) result = Refuses (codes "wfcheck") errors errors' e result
 
 -- the words were judged, what they ask for was done, and it was told how that ended
-abbrev pub Serves : {F : Type 0} → Opens → GivenWords → Filing F → Filing F → Reading → Reading → Writing → Writing → Writing → Writing → ℕ → Type 0
+abbrev pub Serves : {F : Type 0} → Opens → GivenWords → Filing F → Filing F → Reading → Reading → Writing → Writing → Writing → Writing
+    → ℕ → Type 0
 Serves opens words folder folder' source source' sink sink' errors errors' status =
     (asked : Result Job WordsFault) × (done : Result Done Refusal) × IsAsked job_asked words asked
     × DoesAsked opens asked folder folder' source source' sink sink' done × Ends errors errors' done status

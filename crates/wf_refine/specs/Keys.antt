@@ -26,7 +26,8 @@ IsEvenAt place rows f =
 pub record IsJoined (place : ℕ) (rows : List Tuple) (old new : ℕ → ℕ) : Type 0 where
   pub even : IsEvenAt place rows new
   pub kept : (i j : ℕ) → old i ≡ old j → new i ≡ new j
-  pub only : (f : ℕ → ℕ) → IsEvenAt place rows f → ((i : ℕ) → i < length rows → f (old i) ≡ f i) → (i : ℕ) → i < length rows → f (new i) ≡ f i
+  pub only : (f : ℕ → ℕ) → IsEvenAt place rows f → ((i : ℕ) → i < length rows → f (old i) ≡ f i) → (i : ℕ) → i < length rows
+      → f (new i) ≡ f i
 
 -- parents of tuples with the roots that come of these
 abbrev pub JoinsAt : ℕ → List Tuple → List ℕ → (ℕ → ℕ) → Type 0

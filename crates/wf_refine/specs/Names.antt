@@ -31,7 +31,8 @@ row_of columns number = map (λ column. slice_index column number) columns
 -- each tuple has the number of a part with its value at the place, and the numbers are met in order
 pub record AreNumbered (place : ℕ) (rows : List Tuple) (numbers : List ℕ) (parts : List (List Tuple)) : Type 0 where
   pub known : (i : ℕ) → i < length rows → slice_index numbers i < length parts
-  pub value : (i : ℕ) → i < length rows → value_of_part place (slice_index_or parts (slice_index numbers i) []) ≡ value_at (row_at rows i) place
+  pub value : (i : ℕ) → i < length rows → value_of_part place (slice_index_or parts (slice_index numbers i) [])
+      ≡ value_at (row_at rows i) place
   pub met : (i v : ℕ) → i < length rows → v < slice_index numbers i → (j : ℕ) × (j < i) × (slice_index numbers j ≡ v)
   pub all : (k : ℕ) → k < length parts → (i : ℕ) × (i < length rows) × (slice_index numbers i ≡ k)
 

@@ -98,6 +98,7 @@ pub(crate) fn value_at(simplex: &Simplex, place: u8) -> u8
     requires { place < length simplex.now }
     ensures { result ≡ slice_index (values_of simplex.now) place }
 {
+    // for the proof alone, which reads what holds of every simplex
     let _ = simplex.colours();
     let Some(value) = simplex.value(simplex.colour(place)) else {
         unreachable!()

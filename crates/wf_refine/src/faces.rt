@@ -13,6 +13,7 @@ use wf_task::Row;
 pub fn is_part(face: &Simplex, simplex: &Simplex) -> bool
     ensures { result ≡ is_part face.now simplex.now }
 {
+    // for the proof alone, which reads what holds of every simplex
     let _ = face.colours();
     let _ = simplex.colours();
     face.is_face(simplex)
@@ -38,6 +39,7 @@ pub fn vertex_at(simplex: &Simplex, place: u8) -> Simplex
     requires { place < length simplex.now }
     ensures { result ≡ slice_index_or simplex.now place (0, 0) ∷ [] }
 {
+    // for the proof alone, which reads what holds of every simplex
     let _ = simplex.colours();
     let process = simplex.colour(place);
     let value = value_at(simplex, place);

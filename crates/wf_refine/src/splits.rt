@@ -152,6 +152,7 @@ fn add_names(sets: &mut [Mask], process: u8, rows: &[Row], named: &[Row], place:
 {
     'rows: for (number, row) in rows.iter().enumerate() {
         let name = &named[number];
+        // for the proof alone, which reads what holds of every name
         let _ = name.size();
         let at = set_place(process, row.value(place));
         sets[at] = with(sets[at], name.value(place));
@@ -176,6 +177,7 @@ fn rows_split(
     ensures refused { IfErr result (λ fault. IsTooMany fault most
         (length (tuples_split (split_seen split.now) (rule_of simplex.now rows.now)))) }
 {
+    // for the proof alone, which reads what holds of every simplex
     let _ = simplex.colours();
     if is_part(simplex, &split.simplex) {
         face_rows(alloc, split, simplex, rows, most)
@@ -201,6 +203,7 @@ fn face_rows(
     ensures refused { IfErr result (λ fault. IsTooMany fault most
         (length (tuples_on_face (split_seen split.now) (rule_of face.now allowed.now)))) }
 {
+    // for the proof alone, which reads what holds of every simplex
     let _ = face.colours();
     let mask = mask_of(alloc, face, &split.simplex)?;
     let mut found = Vec::new(alloc);

@@ -120,11 +120,11 @@ not_number name l short (inr long) = by_number (number_of_line name l) refl
         let number = number_size n (10 ∷ []) is.1 in
         absurd (omega (arith, size, parts, number, short, long))
 
-pub not_value : (l : List ℕ) → IsBadLine l → value_of_line 2 l ≡ None
+pub not_value : (l : List ℕ) → IsBadLine l → value_of_line l ≡ None
 not_value l (inl h) = values_of_lines l h
-not_value l (inr long) = by_value (value_of_line 2 l) refl
+not_value l (inr long) = by_value (value_of_line l) refl
   where
-    by_value : (o : Option ℕ) → value_of_line 2 l ≡ o → o ≡ None
+    by_value : (o : Option ℕ) → value_of_line l ≡ o → o ≡ None
     by_value None e = refl
     by_value (Some a) e =
         let is = value_there l a e in
@@ -148,10 +148,10 @@ step_size (branch v) few =
     omega (arith, number)
 step_size found few = omega arith
 
-no_step_there : (l : List ℕ) → 22 < length l → any_step 2 l ≡ None
-no_step_there l long = by_step (any_step 2 l) refl
+no_step_there : (l : List ℕ) → 22 < length l → any_step l ≡ None
+no_step_there l long = by_step (any_step l) refl
   where
-    by_step : (o : Option Line) → any_step 2 l ≡ o → o ≡ None
+    by_step : (o : Option Line) → any_step l ≡ o → o ≡ None
     by_step None e = refl
     by_step (Some x) e =
         let is = step_there l x e in

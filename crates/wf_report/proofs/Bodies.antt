@@ -31,10 +31,10 @@ abbrev pub of_least : (reports.Body → reports.Reading reports.Report) → List
 of_least next values steps = next (reports.least values steps)
 
 pub map_is : (next : reports.Body → reports.Reading reports.Report) → map_then Values (of_map next) 7 ≡ body_then next Map
-map_is next = λ i ls. sym (then_twice (steps_from (step_in Values) (7 + length (values_at_front 2 ls).0) (values_at_front 2 ls).1) (λ (steps : List Line). reports.a_map (values_at_front 2 ls).0) next) i
+map_is next = λ i ls. sym (then_twice (steps_from (step_in Values) (7 + length (values_at_front ls).0) (values_at_front ls).1) (λ (steps : List Line). reports.a_map (values_at_front ls).0) next) i
 
 pub least_is : (next : reports.Body → reports.Reading reports.Report) → map_then Search (of_least next) 7 ≡ body_then next Least
-least_is next = λ i ls. sym (then_twice (steps_from (step_in Search) (7 + length (values_at_front 2 ls).0) (values_at_front 2 ls).1) (λ steps. reports.least (values_at_front 2 ls).0 steps) next) i
+least_is next = λ i ls. sym (then_twice (steps_from (step_in Search) (7 + length (values_at_front ls).0) (values_at_front ls).1) (λ steps. reports.least (values_at_front ls).0 steps) next) i
 
 pub none_is : (next : reports.Body → reports.Reading reports.Report) → steps_then Refutation 7 (λ steps. next (reports.none steps)) ≡ body_then next Nothing
 none_is next = λ i ls. sym (then_twice (steps_from (step_in Refutation) 7 ls) reports.none next) i

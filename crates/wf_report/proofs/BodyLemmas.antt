@@ -115,44 +115,44 @@ at_cut_off f item before k text whole h = ap (gathered f before) (no_line item k
 
 pub steps_of_lines : (part : Section) → IsOfLines (step_in part)
 steps_of_lines Values l h = refl
-steps_of_lines Refutation l h = ap (λ o. option_and_then (λ x. if is_found x then None else Some x) (option_and_then (step_of_words 2) o)) (no_words l h)
-steps_of_lines Search l h = ap (option_and_then (step_of_words 2)) (no_words l h)
+steps_of_lines Refutation l h = ap (λ o. option_and_then (λ x. if is_found x then None else Some x) (option_and_then step_of_words o)) (no_words l h)
+steps_of_lines Search l h = ap (option_and_then step_of_words) (no_words l h)
 
 -- all items are there
 pub none_before : {X : Type 0} (rest : Reading (List X)) → gathered (λ xs. xs) [] rest ≡ rest
 none_before (Ok xs) = refl
 none_before (Err e) = refl
 
-pub none_is : (ls : List (List ℕ)) → none_body 2 ls ≡ gathered none [] (items_from (step_of_none 2) 7 ls)
-none_is ls = ap (λ r. then_read r (λ xs. Ok (none xs))) (steps_are (step_of_none 2) 7 ls)
+pub none_is : (ls : List (List ℕ)) → none_body ls ≡ gathered none [] (items_from step_of_none 7 ls)
+none_is ls = ap (λ r. then_read r (λ xs. Ok (none xs))) (steps_are step_of_none 7 ls)
 
 -- ---- the values of a map
 
-pub values_of_lines : IsOfLines (value_of_line 2)
+pub values_of_lines : IsOfLines value_of_line
 values_of_lines l h = ap (λ o. option_and_then (λ a. if nat_le a 255 then Some a else None) o) (number_is (codes "m") l ∙ ap (number_by (codes "m")) (no_words l h))
 
 -- the last line has no value
-end_is_none : (l : List ℕ) (a : ℕ) → value_of_line 2 l ≡ Some a → same_text l (line (codes "end") []) ≡ false
+end_is_none : (l : List ℕ) (a : ℕ) → value_of_line l ≡ Some a → same_text l (line (codes "end") []) ≡ false
 end_is_none l a is = by_test (same_text l (line (codes "end") [])) refl
   where
     by_test : (t : Bool) → same_text l (line (codes "end") []) ≡ t → t ≡ false
     by_test false e = refl
     by_test true e =
         let same : l ≡ line (codes "end") [] = std.same_text l (line (codes "end") []) (sym e) in
-        let no_value : value_of_line 2 l ≡ None = ap (value_of_line 2) same in
+        let no_value : value_of_line l ≡ None = ap value_of_line same in
         absurd (let bad : ⊥ = cc in bad)
 
 abbrev pub front : List (List ℕ) → List ℕ × List (List ℕ)
-front ls = values_at_front 2 ls
+front ls = values_at_front ls
 
 abbrev pub front_by : Option ℕ → List ℕ → List (List ℕ) → List ℕ × List (List ℕ)
 front_by None l ls = ([], l ∷ ls)
 front_by (Some a) l ls = (a ∷ (front ls).0, (front ls).1)
 
-pub front_is : (l : List ℕ) (ls : List (List ℕ)) → values_at_front 2 (l ∷ ls) ≡ front_by (value_of_line 2 l) l ls
-front_is l ls = by_value (value_of_line 2 l)
+pub front_is : (l : List ℕ) (ls : List (List ℕ)) → values_at_front (l ∷ ls) ≡ front_by (value_of_line l) l ls
+front_is l ls = by_value (value_of_line l)
   where
-    by_value : (o : Option ℕ) → (elim o [ None ↦ ([], l ∷ ls) | Some a ↦ (a ∷ (values_at_front 2 ls).0, (values_at_front 2 ls).1) ]) ≡ front_by o l ls
+    by_value : (o : Option ℕ) → (elim o [ None ↦ ([], l ∷ ls) | Some a ↦ (a ∷ (values_at_front ls).0, (values_at_front ls).1) ]) ≡ front_by o l ls
     by_value None = refl
     by_value (Some a) = refl
 
@@ -160,13 +160,13 @@ front_is l ls = by_value (value_of_line 2 l)
 abbrev of_front : List ℕ → ℕ → List ℕ × List (List ℕ) → Reading Body
 of_front before k m = then_read (items_from no_step (k + length m.0) m.1) (λ xs. Ok (a_map (before ++ m.0)))
 
-values_are : (before : List ℕ) (k : ℕ) (ls : List (List ℕ)) → of_front before k (front ls) ≡ gathered a_map before (items_from (value_of_line 2) k ls)
+values_are : (before : List ℕ) (k : ℕ) (ls : List (List ℕ)) → of_front before k (front ls) ≡ gathered a_map before (items_from value_of_line k ls)
 values_are before k [] =
     let same : k + 0 ≡ k = omega arith in
     ap Err same
-values_are before k (l ∷ ls) = ap (of_front before k) (front_is l ls) ∙ by_value (value_of_line 2 l) refl (λ a. values_are (before ++ a ∷ []) (suc k) ls)
+values_are before k (l ∷ ls) = ap (of_front before k) (front_is l ls) ∙ by_value (value_of_line l) refl (λ a. values_are (before ++ a ∷ []) (suc k) ls)
   where
-    none_left : (k : ℕ) (t : Bool) → then_read (cond t (ended k ls) (onto None k (items_from no_step (suc k) ls))) (λ (xs : List Line). Ok (a_map (before ++ []))) ≡ gathered a_map before (cond t (ended k ls) (onto None k (items_from (value_of_line 2) (suc k) ls)))
+    none_left : (k : ℕ) (t : Bool) → then_read (cond t (ended k ls) (onto None k (items_from no_step (suc k) ls))) (λ (xs : List Line). Ok (a_map (before ++ []))) ≡ gathered a_map before (cond t (ended k ls) (onto None k (items_from value_of_line (suc k) ls)))
     none_left k false = refl
     none_left k true = at_end ls
       where
@@ -174,27 +174,27 @@ values_are before k (l ∷ ls) = ap (of_front before k) (front_is l ls) ∙ by_v
         at_end [] = refl
         at_end (x ∷ xs) = refl
 
-    by_value : (o : Option ℕ) → value_of_line 2 l ≡ o → ((a : ℕ) → of_front (before ++ a ∷ []) (suc k) (front ls) ≡ gathered a_map (before ++ a ∷ []) (items_from (value_of_line 2) (suc k) ls))
-        → of_front before k (front_by o l ls) ≡ gathered a_map before (items_from (value_of_line 2) k (l ∷ ls))
+    by_value : (o : Option ℕ) → value_of_line l ≡ o → ((a : ℕ) → of_front (before ++ a ∷ []) (suc k) (front ls) ≡ gathered a_map (before ++ a ∷ []) (items_from value_of_line (suc k) ls))
+        → of_front before k (front_by o l ls) ≡ gathered a_map before (items_from value_of_line k (l ∷ ls))
     by_value None e rest =
         let same : k + 0 ≡ k = omega arith in
         ap (λ n. then_read (items_from no_step n (l ∷ ls)) (λ xs. Ok (a_map (before ++ [])))) same
         ∙ none_left k (same_text l (line (codes "end") []))
-        ∙ ap (λ o. gathered a_map before (cond (same_text l (line (codes "end") [])) (ended k ls) (onto o k (items_from (value_of_line 2) (suc k) ls)))) (sym e)
+        ∙ ap (λ o. gathered a_map before (cond (same_text l (line (codes "end") [])) (ended k ls) (onto o k (items_from value_of_line (suc k) ls)))) (sym e)
     by_value (Some a) e rest =
         let next : k + suc (length (front ls).0) ≡ suc k + length (front ls).0 = omega arith in
         (λ i. then_read (items_from no_step (next i) (front ls).1) (λ xs. Ok (a_map (sym (append_assoc before (a ∷ []) (front ls).0) i))))
         ∙ rest a
-        ∙ sym (one_more a_map before a k (items_from (value_of_line 2) (suc k) ls))
-        ∙ sym (λ i. gathered a_map before (cond (end_is_none l a e i) (ended k ls) (onto (e i) k (items_from (value_of_line 2) (suc k) ls))))
+        ∙ sym (one_more a_map before a k (items_from value_of_line (suc k) ls))
+        ∙ sym (λ i. gathered a_map before (cond (end_is_none l a e i) (ended k ls) (onto (e i) k (items_from value_of_line (suc k) ls))))
 
-pub map_is : (ls : List (List ℕ)) → map_body 2 ls ≡ gathered a_map [] (items_from (value_of_line 2) 7 ls)
+pub map_is : (ls : List (List ℕ)) → map_body ls ≡ gathered a_map [] (items_from value_of_line 7 ls)
 map_is ls = ap (λ r. then_read r (λ xs. Ok (a_map (front ls).0))) (steps_are no_step (7 + length (front ls).0) (front ls).1) ∙ values_are [] 7 ls
 
 -- ---- a map, and the lines that lead to it
 
-pub least_by_front : (ls rest : List (List ℕ)) (m : List ℕ) → values_at_front 2 ls ≡ (m, rest) → least_body 2 ls ≡ then_read (steps_from (any_step 2) (7 + length m) rest) (λ xs. Ok (least m xs))
-least_by_front ls rest m e = ap (λ p. then_read (steps_from (any_step 2) (7 + length p.0) p.1) (λ xs. Ok (least p.0 xs))) e
+pub least_by_front : (ls rest : List (List ℕ)) (m : List ℕ) → values_at_front ls ≡ (m, rest) → least_body ls ≡ then_read (steps_from any_step (7 + length m) rest) (λ xs. Ok (least m xs))
+least_by_front ls rest m e = ap (λ p. then_read (steps_from any_step (7 + length p.0) p.1) (λ xs. Ok (least p.0 xs))) e
 
 -- the values so far, with those at the front of what is left
 abbrev pub fronted : List ℕ → List ℕ × List (List ℕ) → List ℕ × List (List ℕ)
@@ -216,13 +216,13 @@ module _ (before : List ℕ) (found rest text : List ℕ) (is : text ≡ found +
   abbrev cut_is : lines_of text ≡ (found ++ 10 ∷ []) ∷ lines_of rest
   cut_is = ap lines_of is ∙ lines_cut found rest h
 
-  pub no_value_next : value_of_line 2 (found ++ 10 ∷ []) ≡ None → fronted before (front (lines_of text)) ≡ (before, lines_of text)
+  pub no_value_next : value_of_line (found ++ 10 ∷ []) ≡ None → fronted before (front (lines_of text)) ≡ (before, lines_of text)
   no_value_next e =
       ap (λ ls. fronted before (front ls)) cut_is
       ∙ ap (fronted before) (front_is (found ++ 10 ∷ []) (lines_of rest) ∙ ap (λ o. front_by o (found ++ 10 ∷ []) (lines_of rest)) e)
       ∙ (λ i. (append-nil before i, sym cut_is i))
 
-  pub value_next : (a : ℕ) → value_of_line 2 (found ++ 10 ∷ []) ≡ Some a → fronted before (front (lines_of text)) ≡ fronted (before ++ a ∷ []) (front (lines_of rest))
+  pub value_next : (a : ℕ) → value_of_line (found ++ 10 ∷ []) ≡ Some a → fronted before (front (lines_of text)) ≡ fronted (before ++ a ∷ []) (front (lines_of rest))
   value_next a e =
       ap (λ ls. fronted before (front ls)) cut_is
       ∙ ap (fronted before) (front_is (found ++ 10 ∷ []) (lines_of rest) ∙ ap (λ o. front_by o (found ++ 10 ∷ []) (lines_of rest)) e)
@@ -231,24 +231,24 @@ module _ (before : List ℕ) (found rest text : List ℕ) (is : text ≡ found +
 -- ---- by line 6
 
 abbrev by_answers : (map_is none_is least_is : Bool) → List (List ℕ) → Reading Body
-by_answers map_is none_is least_is ls = cond map_is (map_body 2 ls) (cond none_is (none_body 2 ls) (cond least_is (least_body 2 ls) (Err 6)))
+by_answers map_is none_is least_is ls = cond map_is (map_body ls) (cond none_is (none_body ls) (cond least_is (least_body ls) (Err 6)))
 
-pub no_answer : (text : List ℕ) → lacks 10 text ≡ true → body_at 2 (lines_of text) ≡ Err 6
+pub no_answer : (text : List ℕ) → lacks 10 text ≡ true → body_at (lines_of text) ≡ Err 6
 no_answer text h =
     ⊎_elim
-    (λ (e : lines_of text ≡ []). ap (body_at 2) e)
+    (λ (e : lines_of text ≡ []). ap body_at e)
     (λ (e : lines_of text ≡ text ∷ []).
-    ap (body_at 2) e ∙ (λ i. by_answers (not_ended text (codes "answer map") h i) (not_ended text (codes "answer none") h i) (not_ended text (codes "answer least") h i) []))
+    ap body_at e ∙ (λ i. by_answers (not_ended text (codes "answer map") h i) (not_ended text (codes "answer none") h i) (not_ended text (codes "answer least") h i) []))
     (last_piece text h)
 
 module _ (found rest text : List ℕ) (is : text ≡ found ++ 10 ∷ rest) (h : lacks 10 found ≡ true) where
-  tests_are : body_at 2 (lines_of text) ≡ by_answers (same_text found (codes "answer map")) (same_text found (codes "answer none")) (same_text found (codes "answer least")) (lines_of rest)
+  tests_are : body_at (lines_of text) ≡ by_answers (same_text found (codes "answer map")) (same_text found (codes "answer none")) (same_text found (codes "answer least")) (lines_of rest)
   tests_are =
-      ap (λ t. body_at 2 (lines_of t)) is ∙ ap (body_at 2) (lines_cut found rest h)
+      ap (λ t. body_at (lines_of t)) is ∙ ap body_at (lines_cut found rest h)
       ∙ (λ i. by_answers (same_ended found (codes "answer map") i) (same_ended found (codes "answer none") i) (same_ended found (codes "answer least") i) (lines_of rest))
 
-  pub map_answer : same_text found (codes "answer map") ≡ true → body_at 2 (lines_of text) ≡ map_body 2 (lines_of rest)
+  pub map_answer : same_text found (codes "answer map") ≡ true → body_at (lines_of text) ≡ map_body (lines_of rest)
   map_answer e = tests_are ∙ ap (λ t. by_answers t (same_text found (codes "answer none")) (same_text found (codes "answer least")) (lines_of rest)) e
 
-  pub bad_answer : same_text found (codes "answer map") ≡ false → same_text found (codes "answer none") ≡ false → same_text found (codes "answer least") ≡ false → body_at 2 (lines_of text) ≡ Err 6
+  pub bad_answer : same_text found (codes "answer map") ≡ false → same_text found (codes "answer none") ≡ false → same_text found (codes "answer least") ≡ false → body_at (lines_of text) ≡ Err 6
   bad_answer no_map no_lines no_least = tests_are ∙ (λ i. by_answers (no_map i) (no_lines i) (no_least i) (lines_of rest))

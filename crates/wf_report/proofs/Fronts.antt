@@ -148,7 +148,7 @@ number_fails k name next short = record {
 
 -- the body, by which answer line 6 says
 abbrev by_answers : (is_map is_none is_least : Bool) → List (List ℕ) → reports.Reading reports.Body
-by_answers is_map is_none is_least ls = cond is_map (map_body 2 ls) (cond is_none (none_body 2 ls) (cond is_least (least_body 2 ls) (Err 6)))
+by_answers is_map is_none is_least ls = cond is_map (map_body ls) (cond is_none (none_body ls) (cond is_least (least_body ls) (Err 6)))
 
 pub answer_fails : (next : reports.Body → reports.Reading reports.Report) → FailsAt 6 (report_from next)
 answer_fails next = record {
@@ -217,7 +217,7 @@ abbrev pub values_by : (List ℕ → Parse) → List ℕ → List (List ℕ) →
 values_by next l ls None = next [] (l ∷ ls)
 values_by next l ls (Some a) = values_then (λ values. next (a ∷ values)) ls
 
-pub values_at : (next : List ℕ → Parse) (l : List ℕ) (ls : List (List ℕ)) (o : Option ℕ) → value_of_line 2 l ≡ o → values_then next (l ∷ ls) ≡ values_by next l ls o
+pub values_at : (next : List ℕ → Parse) (l : List ℕ) (ls : List (List ℕ)) (o : Option ℕ) → value_of_line l ≡ o → values_then next (l ∷ ls) ≡ values_by next l ls o
 values_at next l ls o is = ap (λ m. next m.0 m.1) (front_is l ls ∙ ap (λ o. front_by o l ls) is) ∙ by_value o
   where
     by_value : (o : Option ℕ) → next (front_by o l ls).0 (front_by o l ls).1 ≡ values_by next l ls o
@@ -235,7 +235,7 @@ nothing_ahead w next (end, none) more may =
     let empty : lines_ahead w more ≡ [] = ap lines_of (λ i. none i ++ may end i) in
     ap (values_then next) empty ∙ sym (ap (next []) empty)
 
-pub other_ahead : (w : Ahead) (size : ℕ) (at : IsCutAt size w) (next : List ℕ → Parse) → value_of_line 2 (take size w.pending ++ 10 ∷ []) ≡ None → Continues (values_then next) (next []) w w []
+pub other_ahead : (w : Ahead) (size : ℕ) (at : IsCutAt size w) (next : List ℕ → Parse) → value_of_line (take size w.pending ++ 10 ∷ []) ≡ None → Continues (values_then next) (next []) w w []
 other_ahead w size at next none more may =
     let first = line_first w size at more in
     ap (values_then next) first ∙ values_at next (take size w.pending ++ 10 ∷ []) (lines_ahead (passed size w) more) None none ∙ sym (ap (next []) first)

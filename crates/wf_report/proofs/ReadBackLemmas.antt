@@ -120,7 +120,7 @@ number_line name l n h = by_words (words_of l) refl (sym (number_is name l) ∙ 
         let more : has.more ≡ v ∷ [] = let k = has.words_are in cc in
         (has.text_is ∙ (λ i. (first ∙ name_is) i ++ words_text (more i)) ∙ ap (λ x. name ++ 32 ∷ (x ++ 10 ∷ [])) number.0, number.1)
 
-pub value_there : (l : List ℕ) (a : ℕ) → value_of_line 2 l ≡ Some a → (l ≡ value_line a) × (a ≤ 255)
+pub value_there : (l : List ℕ) (a : ℕ) → value_of_line l ≡ Some a → (l ≡ value_line a) × (a ≤ 255)
 value_there l a h = by_number (number_of_line (codes "m") l) refl h
   where
     by_number : (o : Option ℕ) → number_of_line (codes "m") l ≡ o → option_and_then (λ a. cond (nat_le a 255) (Some a) None) o ≡ Some a → (l ≡ value_line a) × (a ≤ 255)
@@ -189,10 +189,10 @@ step_of_one l w x e h = by_test (same_text w (codes "f")) refl h
         subst (IsStep l) same (is, tt)
     by_test false f_is h = absurd (let bad : ⊥ = cc in bad)
 
-pub step_there : (l : List ℕ) (x : Line) → any_step 2 l ≡ Some x → IsStep l x
+pub step_there : (l : List ℕ) (x : Line) → any_step l ≡ Some x → IsStep l x
 step_there l x h = by_words (words_of l) refl h
   where
-    by_words : (o : Option (List (List ℕ))) → words_of l ≡ o → option_and_then (step_of_words 2) o ≡ Some x → IsStep l x
+    by_words : (o : Option (List (List ℕ))) → words_of l ≡ o → option_and_then step_of_words o ≡ Some x → IsStep l x
     by_words None e h = absurd (let bad : ⊥ = cc in bad)
     by_words (Some []) e h = absurd (let bad : ⊥ = cc in bad)
     by_words (Some (w ∷ [])) e h = step_of_one l w x e h
@@ -202,10 +202,10 @@ step_there l x h = by_words (words_of l) refl h
     by_words (Some (w ∷ u ∷ v ∷ y ∷ z ∷ more)) e h = absurd (let bad : ⊥ = cc in bad)
 
 -- a line of a refutation
-line_there : (l : List ℕ) (x : Line) → step_of_none 2 l ≡ Some x → (l ≡ line_text x) × IsLineWithin x
-line_there l x h = by_step (any_step 2 l) refl h
+line_there : (l : List ℕ) (x : Line) → step_of_none l ≡ Some x → (l ≡ line_text x) × IsLineWithin x
+line_there l x h = by_step (any_step l) refl h
   where
-    by_step : (o : Option Line) → any_step 2 l ≡ o → passed o ≡ Some x → (l ≡ line_text x) × IsLineWithin x
+    by_step : (o : Option Line) → any_step l ≡ o → passed o ≡ Some x → (l ≡ line_text x) × IsLineWithin x
     by_step None e h = absurd (let bad : ⊥ = cc in bad)
     by_step (Some (remove n c a)) e h = let same : remove n c a ≡ x = cc in subst (λ x. (l ≡ line_text x) × IsLineWithin x) same (step_there l (remove n c a) e)
     by_step (Some (empty v)) e h = let same : empty v ≡ x = cc in subst (λ x. (l ≡ line_text x) × IsLineWithin x) same (step_there l (empty v) e)
@@ -242,9 +242,9 @@ items_there {X} item text Good spells (l ∷ ls) xs k h =
 front_there : (ls : List (List ℕ)) → (flat_map (λ l. l) ls ≡ flat_map value_line (front ls).0 ++ flat_map (λ l. l) (front ls).1) × AllByRecursion (λ a. a ≤ 255) (front ls).0
 front_there [] = (refl, tt)
 front_there (l ∷ ls) =
-    subst (λ p. (flat_map (λ l. l) (l ∷ ls) ≡ flat_map value_line p.0 ++ flat_map (λ l. l) p.1) × AllByRecursion (λ a. a ≤ 255) p.0) (sym (front_is l ls)) (by_value (value_of_line 2 l) refl (front_there ls))
+    subst (λ p. (flat_map (λ l. l) (l ∷ ls) ≡ flat_map value_line p.0 ++ flat_map (λ l. l) p.1) × AllByRecursion (λ a. a ≤ 255) p.0) (sym (front_is l ls)) (by_value (value_of_line l) refl (front_there ls))
   where
-    by_value : (o : Option ℕ) → value_of_line 2 l ≡ o → (flat_map (λ l. l) ls ≡ flat_map value_line (front ls).0 ++ flat_map (λ l. l) (front ls).1) × AllByRecursion (λ a. a ≤ 255) (front ls).0
+    by_value : (o : Option ℕ) → value_of_line l ≡ o → (flat_map (λ l. l) ls ≡ flat_map value_line (front ls).0 ++ flat_map (λ l. l) (front ls).1) × AllByRecursion (λ a. a ≤ 255) (front ls).0
         → (flat_map (λ l. l) (l ∷ ls) ≡ flat_map value_line (front_by o l ls).0 ++ flat_map (λ l. l) (front_by o l ls).1) × AllByRecursion (λ a. a ≤ 255) (front_by o l ls).0
     by_value None e rest = (refl, tt)
     by_value (Some a) e rest =
@@ -260,39 +260,39 @@ then_ok (Err e) f y h = absurd (let bad : ⊥ = cc in bad)
 abbrev IsBodyText : List (List ℕ) → Body → Type 0
 IsBodyText ls b = (flat_map (λ l. l) ls ≡ answer_line b ++ (body_text b ++ line (codes "end") [])) × IsBodyWithin b
 
-body_there : (ls : List (List ℕ)) (b : Body) → body_at 2 ls ≡ Ok b → IsBodyText ls b
+body_there : (ls : List (List ℕ)) (b : Body) → body_at ls ≡ Ok b → IsBodyText ls b
 body_there [] b h = absurd (let bad : ⊥ = cc in bad)
 body_there (l ∷ ls) b h = by_tests (same_text l (line (codes "answer map") [])) (same_text l (line (codes "answer none") [])) (same_text l (line (codes "answer least") [])) refl refl refl h
   where
-    of_map : l ≡ line (codes "answer map") [] → map_body 2 ls ≡ Ok b → IsBodyText (l ∷ ls) b
+    of_map : l ≡ line (codes "answer map") [] → map_body ls ≡ Ok b → IsBodyText (l ∷ ls) b
     of_map e h =
-        let found = then_ok (items_from (value_of_line 2) 7 ls) (λ xs. Ok (a_map xs)) b (sym (map_is ls) ∙ h) in
+        let found = then_ok (items_from value_of_line 7 ls) (λ xs. Ok (a_map xs)) b (sym (map_is ls) ∙ h) in
         let same : a_map found.0 ≡ b = let k = found.2 in cc in
-        let items = items_there (value_of_line 2) value_line (λ a. a ≤ 255) value_there ls found.0 7 found.1 in
+        let items = items_there value_of_line value_line (λ a. a ≤ 255) value_there ls found.0 7 found.1 in
         subst (IsBodyText (l ∷ ls)) same ((λ i. e i ++ items.0 i), items.1)
 
-    of_lines : l ≡ line (codes "answer none") [] → none_body 2 ls ≡ Ok b → IsBodyText (l ∷ ls) b
+    of_lines : l ≡ line (codes "answer none") [] → none_body ls ≡ Ok b → IsBodyText (l ∷ ls) b
     of_lines e h =
-        let found = then_ok (items_from (step_of_none 2) 7 ls) (λ xs. Ok (none xs)) b (sym (none_is ls) ∙ h) in
+        let found = then_ok (items_from step_of_none 7 ls) (λ xs. Ok (none xs)) b (sym (none_is ls) ∙ h) in
         let same : none found.0 ≡ b = let k = found.2 in cc in
-        let items = items_there (step_of_none 2) line_text IsLineWithin line_there ls found.0 7 found.1 in
+        let items = items_there step_of_none line_text IsLineWithin line_there ls found.0 7 found.1 in
         subst (IsBodyText (l ∷ ls)) same ((λ i. e i ++ items.0 i), items.1)
 
-    of_least : l ≡ line (codes "answer least") [] → least_body 2 ls ≡ Ok b → IsBodyText (l ∷ ls) b
+    of_least : l ≡ line (codes "answer least") [] → least_body ls ≡ Ok b → IsBodyText (l ∷ ls) b
     of_least e h =
         let m = (front ls).0 in
         let rest = (front ls).1 in
-        let found = then_ok (items_from (any_step 2) (7 + length m) rest) (λ xs. Ok (least m xs)) b (ap (λ r. then_read r (λ xs. Ok (least m xs))) (sym (steps_are (any_step 2) (7 + length m) rest)) ∙ h) in
+        let found = then_ok (items_from any_step (7 + length m) rest) (λ xs. Ok (least m xs)) b (ap (λ r. then_read r (λ xs. Ok (least m xs))) (sym (steps_are any_step (7 + length m) rest)) ∙ h) in
         let same : least m found.0 ≡ b = let k = found.2 in cc in
         let values = front_there ls in
-        let items = items_there (any_step 2) line_text IsStepWithin step_there rest found.0 (7 + length m) found.1 in
+        let items = items_there any_step line_text IsStepWithin step_there rest found.0 (7 + length m) found.1 in
         subst (IsBodyText (l ∷ ls)) same (
           (λ i. e i ++ (values.0 ∙ ap (λ t. flat_map value_line m ++ t) items.0 ∙ sym (append_assoc (flat_map value_line m) (flat_map line_text found.0) (line (codes "end") []))) i),
           (values.1, items.1),
         )
 
     by_tests : (s t u : Bool) → same_text l (line (codes "answer map") []) ≡ s → same_text l (line (codes "answer none") []) ≡ t → same_text l (line (codes "answer least") []) ≡ u
-        → cond s (map_body 2 ls) (cond t (none_body 2 ls) (cond u (least_body 2 ls) (Err 6))) ≡ Ok b → IsBodyText (l ∷ ls) b
+        → cond s (map_body ls) (cond t (none_body ls) (cond u (least_body ls) (Err 6))) ≡ Ok b → IsBodyText (l ∷ ls) b
     by_tests true t u s_is t_is u_is h = of_map (std.same_text l (line (codes "answer map") []) (sym s_is)) h
     by_tests false true u s_is t_is u_is h = of_lines (std.same_text l (line (codes "answer none") []) (sym t_is)) h
     by_tests false false true s_is t_is u_is h = of_least (std.same_text l (line (codes "answer least") []) (sym u_is)) h
@@ -317,14 +317,14 @@ number_found k name (l ∷ ls) p h = by_number (number_of_line name l) refl (sym
         let one = number_line name l n e in
         subst (λ p. (l ∷ ls ≡ line name (p.0 ∷ []) ∷ p.1) × (p.0 ≤ most_number)) same (ap (λ x. x ∷ ls) one.0, one.1)
 
-pub read_written : (text : List ℕ) (r : Report) → report_of 2 text ≡ Ok r → (text ≡ report_text r) × IsInGrammar r
+pub read_written : (text : List ℕ) (r : Report) → report_of text ≡ Ok r → (text ≡ report_text r) × IsInGrammar r
 read_written text r h =
     let first = then_ok (fixed_at 1 (line (codes "wfcheck report 1") []) (lines_of text)) _ r h in
     let second = then_ok (number_at 2 (codes "processes") first.0) _ r first.2 in
     let third = then_ok (number_at 3 (codes "rounds") second.0.1) _ r second.2 in
     let fourth = then_ok (number_at 4 (codes "points") third.0.1) _ r third.2 in
     let fifth = then_ok (number_at 5 (codes "executions") fourth.0.1) _ r fourth.2 in
-    let sixth = then_ok (body_at 2 fifth.0.1) _ r fifth.2 in
+    let sixth = then_ok (body_at fifth.0.1) _ r fifth.2 in
     let same : record { processes = second.0.0; rounds = third.0.0; points = fourth.0.0; executions = fifth.0.0; body = sixth.0 } ≡ r = let k = sixth.2 in cc in
     let at1 = fixed_there 1 (line (codes "wfcheck report 1") []) (lines_of text) first.0 first.1 in
     let at2 = number_found 2 (codes "processes") first.0 second.0 second.1 in

@@ -111,28 +111,28 @@ words_are name ns h k all = longer_word name (numbers_text ns) (map decimal ns) 
 
 -- ---- items
 
-value_read : (a : ℕ) → a ≤ 255 → value_of_line 2 (value_line a) ≡ Some a
+value_read : (a : ℕ) → a ≤ 255 → value_of_line (value_line a) ≡ Some a
 value_read a h =
     let within : a ≤ most_number = omega (arith, h) in
     let number : number_of_line (codes "m") (value_line a) ≡ Some a = number_is (codes "m") (value_line a) ∙ ap (number_by (codes "m")) (words_are (codes "m") (a ∷ []) refl refl (within, tt)) ∙ number_read most_number a within within in
     ap (λ o. option_and_then (λ a. cond (nat_le a 255) (Some a) None) o) number ∙ ap (λ t. cond t (Some a) None) (le-leb a 255 h)
 
-step_read : (l : Line) → IsStepWithin l → any_step 2 (line_text l) ≡ Some l
+step_read : (l : Line) → IsStepWithin l → any_step (line_text l) ≡ Some l
 step_read (remove e c a) h =
     let process : c ≤ most_number = omega (arith, h.1) in
     let value : a ≤ most_number = omega (arith, h.2) in
     let ws : words_of (line_text (remove e c a)) ≡ Some (codes "p" ∷ decimal e ∷ decimal c ∷ decimal a ∷ []) = words_are (codes "p") (e ∷ c ∷ a ∷ []) refl refl (h.0, (process, (value, tt))) in
-    ap (option_and_then (step_of_words 2)) ws
+    ap (option_and_then step_of_words) ws
     ∙ (λ i. option_and_then (λ x. option_and_then (λ y. option_map (λ z. remove x y z) (number_read 255 a h.2 value i)) (number_read 3 c h.1 process i)) (number_read most_number e h.0 h.0 i))
 step_read (empty v) h =
     let ws : words_of (line_text (empty v)) ≡ Some (codes "z" ∷ decimal v ∷ []) = words_are (codes "z") (v ∷ []) refl refl (h, tt) in
-    ap (option_and_then (step_of_words 2)) ws ∙ ap (option_map empty) (number_read most_number v h h)
+    ap (option_and_then step_of_words) ws ∙ ap (option_map empty) (number_read most_number v h h)
 step_read (branch v) h =
     let ws : words_of (line_text (branch v)) ≡ Some (codes "b" ∷ decimal v ∷ []) = words_are (codes "b") (v ∷ []) refl refl (h, tt) in
-    ap (option_and_then (step_of_words 2)) ws ∙ ap (option_map branch) (number_read most_number v h h)
+    ap (option_and_then step_of_words) ws ∙ ap (option_map branch) (number_read most_number v h h)
 step_read found h = refl
 
-no_value_by : (l : List ℕ) (ws : List (List ℕ)) → number_by (codes "m") (Some ws) ≡ None → words_of l ≡ Some ws → value_of_line 2 l ≡ None
+no_value_by : (l : List ℕ) (ws : List (List ℕ)) → number_by (codes "m") (Some ws) ≡ None → words_of l ≡ Some ws → value_of_line l ≡ None
 no_value_by l ws none_there are = ap (λ o. option_and_then (λ a. cond (nat_le a 255) (Some a) None) o) (number_is (codes "m") l ∙ ap (number_by (codes "m")) are ∙ none_there)
 
 -- an item whose text is a line that is read as the item, and isn't the last
@@ -148,13 +148,13 @@ items_read item text (x ∷ xs) k h =
     ∙ ap (items_from item k) (h.0.one_line (flat_map text xs ++ line (codes "end") []))
     ∙ (λ i. cond (h.0.other i) (ended k (lines_of (flat_map text xs ++ line (codes "end") []))) (onto (h.0.read i) k (items_read item text xs (suc k) h.1 i)))
 
-each_value : (m : List ℕ) → AllByRecursion (λ a. a ≤ 255) m → AllByRecursion (IsReadAgain (value_of_line 2) value_line) m
+each_value : (m : List ℕ) → AllByRecursion (λ a. a ≤ 255) m → AllByRecursion (IsReadAgain value_of_line value_line) m
 each_value [] h = tt
 each_value (a ∷ m) h =
     let within : a ≤ most_number = omega (arith, h.0) in
     (record { one_line = is_line (codes "m") (a ∷ []) refl (within, tt); other = refl; read = value_read a h.0 }, each_value m h.1)
 
-step_again : (l : Line) → IsStepWithin l → IsReadAgain (any_step 2) line_text l
+step_again : (l : Line) → IsStepWithin l → IsReadAgain any_step line_text l
 step_again (remove e c a) h =
     let process : c ≤ most_number = omega (arith, h.1) in
     let value : a ≤ most_number = omega (arith, h.2) in
@@ -164,24 +164,24 @@ step_again (branch v) h = record { one_line = is_line (codes "b") (v ∷ []) ref
 step_again found h = record { one_line = is_line (codes "f") [] refl tt; other = refl; read = refl }
 
 -- a line of a refutation
-line_again : (l : Line) → IsLineWithin l → IsReadAgain (step_of_none 2) line_text l
+line_again : (l : Line) → IsLineWithin l → IsReadAgain step_of_none line_text l
 line_again (remove e c a) h = let step = step_again (remove e c a) h in record { one_line = step.one_line; other = refl; read = ap passed step.read }
 line_again (empty v) h = let step = step_again (empty v) h in record { one_line = step.one_line; other = refl; read = ap passed step.read }
 line_again (branch v) h = let step = step_again (branch v) h in record { one_line = step.one_line; other = refl; read = ap passed step.read }
 line_again found h = absurd h
 
-each_step : (ls : List Line) → AllByRecursion IsStepWithin ls → AllByRecursion (IsReadAgain (any_step 2) line_text) ls
+each_step : (ls : List Line) → AllByRecursion IsStepWithin ls → AllByRecursion (IsReadAgain any_step line_text) ls
 each_step [] h = tt
 each_step (l ∷ ls) h = (step_again l h.0, each_step ls h.1)
 
-each_line : (ls : List Line) → AllByRecursion IsLineWithin ls → AllByRecursion (IsReadAgain (step_of_none 2) line_text) ls
+each_line : (ls : List Line) → AllByRecursion IsLineWithin ls → AllByRecursion (IsReadAgain step_of_none line_text) ls
 each_line [] h = tt
 each_line (l ∷ ls) h = (line_again l h.0, each_line ls h.1)
 
 -- ---- values before steps
 
 -- no line of a step has a value
-step_no_value : (l : Line) → IsStepWithin l → value_of_line 2 (line_text l) ≡ None
+step_no_value : (l : Line) → IsStepWithin l → value_of_line (line_text l) ≡ None
 step_no_value (remove e c a) h =
     let process : c ≤ most_number = omega (arith, h.1) in
     let value : a ≤ most_number = omega (arith, h.2) in
@@ -211,21 +211,21 @@ front_read (a ∷ m) rest h e =
 
 -- ---- reports
 
-body_read : (b : Body) → IsBodyWithin b → body_at 2 (lines_of (answer_line b ++ (body_text b ++ line (codes "end") []))) ≡ Ok b
+body_read : (b : Body) → IsBodyWithin b → body_at (lines_of (answer_line b ++ (body_text b ++ line (codes "end") []))) ≡ Ok b
 body_read (a_map m) h =
-    ap (body_at 2) (is_line (codes "answer map") [] refl tt (body_text (a_map m) ++ line (codes "end") []))
+    ap body_at (is_line (codes "answer map") [] refl tt (body_text (a_map m) ++ line (codes "end") []))
     ∙ map_is (lines_of (body_text (a_map m) ++ line (codes "end") []))
-    ∙ ap (gathered a_map []) (items_read (value_of_line 2) value_line m 7 (each_value m h))
+    ∙ ap (gathered a_map []) (items_read value_of_line value_line m 7 (each_value m h))
 body_read (none ls) h =
-    ap (body_at 2) (is_line (codes "answer none") [] refl tt (body_text (none ls) ++ line (codes "end") []))
+    ap body_at (is_line (codes "answer none") [] refl tt (body_text (none ls) ++ line (codes "end") []))
     ∙ none_is (lines_of (body_text (none ls) ++ line (codes "end") []))
-    ∙ ap (gathered none []) (items_read (step_of_none 2) line_text ls 7 (each_line ls h))
+    ∙ ap (gathered none []) (items_read step_of_none line_text ls 7 (each_line ls h))
 body_read (least m ls) h =
     let steps = flat_map line_text ls ++ line (codes "end") [] in
-    ap (body_at 2) (is_line (codes "answer least") [] refl tt (body_text (least m ls) ++ line (codes "end") []))
-    ∙ ap (λ t. least_body 2 (lines_of t)) (append_assoc (flat_map value_line m) (flat_map line_text ls) (line (codes "end") []))
+    ap body_at (is_line (codes "answer least") [] refl tt (body_text (least m ls) ++ line (codes "end") []))
+    ∙ ap (λ t. least_body (lines_of t)) (append_assoc (flat_map value_line m) (flat_map line_text ls) (line (codes "end") []))
     ∙ least_by_front (lines_of (flat_map value_line m ++ steps)) (lines_of steps) m (front_read m steps h.0 (no_front ls h.1))
-    ∙ ap (λ r. then_read r (λ xs. Ok (least m xs))) (steps_are (any_step 2) (7 + length m) (lines_of steps) ∙ items_read (any_step 2) line_text ls (7 + length m) (each_step ls h.1))
+    ∙ ap (λ r. then_read r (λ xs. Ok (least m xs))) (steps_are any_step (7 + length m) (lines_of steps) ∙ items_read any_step line_text ls (7 + length m) (each_step ls h.1))
 
 pub number_there : (k : ℕ) (name rest : List ℕ) (n : ℕ) → lacks 10 name ≡ true → lacks 32 name ≡ true → same_text name name ≡ true → n ≤ most_number → number_at k name (lines_of (line name (n ∷ []) ++ rest)) ≡ Ok (n, lines_of rest)
 number_there k name rest n h space same within =
@@ -233,7 +233,7 @@ number_there k name rest n h space same within =
     ∙ number_at_line k name (line name (n ∷ [])) (lines_of rest)
     ∙ ap (number_step k (lines_of rest)) (number_is name (line name (n ∷ [])) ∙ ap (number_by name) (words_are name (n ∷ []) h space (within, tt)) ∙ (λ i. cond (same i) (number_read most_number n within within i) None))
 
-pub written_read : (r : Report) → IsInGrammar r → report_of 2 (report_text r) ≡ Ok r
+pub written_read : (r : Report) → IsInGrammar r → report_of (report_text r) ≡ Ok r
 written_read r h =
     let body = answer_line r.body ++ (body_text r.body ++ line (codes "end") []) in
     let at_executions = line (codes "executions") (r.executions ∷ []) ++ body in
@@ -241,9 +241,9 @@ written_read r h =
     let at_rounds = line (codes "rounds") (r.rounds ∷ []) ++ at_points in
     let at_processes = line (codes "processes") (r.processes ∷ []) ++ at_rounds in
     let first : fixed_at 1 (line (codes "wfcheck report 1") []) (lines_of (report_text r)) ≡ Ok (lines_of at_processes) = ap (fixed_at 1 (line (codes "wfcheck report 1") [])) (is_line (codes "wfcheck report 1") [] refl tt at_processes) in
-    ap (λ x. then_read x λ ls. then_read (number_at 2 (codes "processes") ls) λ n. then_read (number_at 3 (codes "rounds") n.1) λ r. then_read (number_at 4 (codes "points") r.1) λ p. then_read (number_at 5 (codes "executions") p.1) λ e. then_read (body_at 2 e.1) λ body. Ok (record { processes = n.0; rounds = r.0; points = p.0; executions = e.0; body = body })) first
-    ∙ ap (λ x. then_read x λ n. then_read (number_at 3 (codes "rounds") n.1) λ r. then_read (number_at 4 (codes "points") r.1) λ p. then_read (number_at 5 (codes "executions") p.1) λ e. then_read (body_at 2 e.1) λ body. Ok (record { processes = n.0; rounds = r.0; points = p.0; executions = e.0; body = body })) (number_there 2 (codes "processes") at_rounds r.processes refl refl refl h.processes)
-    ∙ ap (λ x. then_read x λ n. then_read (number_at 4 (codes "points") n.1) λ p. then_read (number_at 5 (codes "executions") p.1) λ e. then_read (body_at 2 e.1) λ body. Ok (record { processes = r.processes; rounds = n.0; points = p.0; executions = e.0; body = body })) (number_there 3 (codes "rounds") at_points r.rounds refl refl refl h.rounds)
-    ∙ ap (λ x. then_read x λ p. then_read (number_at 5 (codes "executions") p.1) λ e. then_read (body_at 2 e.1) λ body. Ok (record { processes = r.processes; rounds = r.rounds; points = p.0; executions = e.0; body = body })) (number_there 4 (codes "points") at_executions r.points refl refl refl h.points)
-    ∙ ap (λ x. then_read x λ e. then_read (body_at 2 e.1) λ body. Ok (record { processes = r.processes; rounds = r.rounds; points = r.points; executions = e.0; body = body })) (number_there 5 (codes "executions") body r.executions refl refl refl h.executions)
+    ap (λ x. then_read x λ ls. then_read (number_at 2 (codes "processes") ls) λ n. then_read (number_at 3 (codes "rounds") n.1) λ r. then_read (number_at 4 (codes "points") r.1) λ p. then_read (number_at 5 (codes "executions") p.1) λ e. then_read (body_at e.1) λ body. Ok (record { processes = n.0; rounds = r.0; points = p.0; executions = e.0; body = body })) first
+    ∙ ap (λ x. then_read x λ n. then_read (number_at 3 (codes "rounds") n.1) λ r. then_read (number_at 4 (codes "points") r.1) λ p. then_read (number_at 5 (codes "executions") p.1) λ e. then_read (body_at e.1) λ body. Ok (record { processes = n.0; rounds = r.0; points = p.0; executions = e.0; body = body })) (number_there 2 (codes "processes") at_rounds r.processes refl refl refl h.processes)
+    ∙ ap (λ x. then_read x λ n. then_read (number_at 4 (codes "points") n.1) λ p. then_read (number_at 5 (codes "executions") p.1) λ e. then_read (body_at e.1) λ body. Ok (record { processes = r.processes; rounds = n.0; points = p.0; executions = e.0; body = body })) (number_there 3 (codes "rounds") at_points r.rounds refl refl refl h.rounds)
+    ∙ ap (λ x. then_read x λ p. then_read (number_at 5 (codes "executions") p.1) λ e. then_read (body_at e.1) λ body. Ok (record { processes = r.processes; rounds = r.rounds; points = p.0; executions = e.0; body = body })) (number_there 4 (codes "points") at_executions r.points refl refl refl h.points)
+    ∙ ap (λ x. then_read x λ e. then_read (body_at e.1) λ body. Ok (record { processes = r.processes; rounds = r.rounds; points = r.points; executions = e.0; body = body })) (number_there 5 (codes "executions") body r.executions refl refl refl h.executions)
     ∙ ap (λ x. then_read x λ body. Ok (record { processes = r.processes; rounds = r.rounds; points = r.points; executions = r.executions; body = body })) (body_read r.body h.body)

@@ -2,15 +2,15 @@
 use Rattle.std.specs.Prelude.{◌≡◌, ◌≤◌, ℕ, List}
 use Rattle.std.specs.List.{AllByRecursion}
 use Rattle.wf_model.specs.Refutation.{Line, remove, empty, branch, found}
-use Rattle.wf_model.specs.Limits.{most_number}
-use Rattle.wf_model.specs.Report.{Body, Report, a_map, none, least, largest, report_text}
+use Rattle.wf_model.specs.Limits.{most_number, most_value}
+use Rattle.wf_model.specs.Report.{Body, Report, a_map, none, least, report_text}
 
 -- the last process
 abbrev pub last_process : ℕ
 last_process = 3
 
 abbrev pub IsLineWithin : Line → Type 0
-IsLineWithin (remove e c a) = (e ≤ most_number) × (c ≤ last_process) × (a ≤ largest 2)
+IsLineWithin (remove e c a) = (e ≤ most_number) × (c ≤ last_process) × (a ≤ most_value)
 IsLineWithin (empty v) = v ≤ most_number
 IsLineWithin (branch v) = v ≤ most_number
 IsLineWithin found = ⊥
@@ -23,9 +23,9 @@ IsStepWithin (empty v) = IsLineWithin (empty v)
 IsStepWithin (branch v) = IsLineWithin (branch v)
 
 abbrev pub IsBodyWithin : Body → Type 0
-IsBodyWithin (a_map m) = AllByRecursion (λ a. a ≤ largest 2) m
+IsBodyWithin (a_map m) = AllByRecursion (λ a. a ≤ most_value) m
 IsBodyWithin (none ls) = AllByRecursion IsLineWithin ls
-IsBodyWithin (least m ls) = AllByRecursion (λ a. a ≤ largest 2) m × AllByRecursion IsStepWithin ls
+IsBodyWithin (least m ls) = AllByRecursion (λ a. a ≤ most_value) m × AllByRecursion IsStepWithin ls
 
 -- each number is one that a line may hold
 pub record IsInGrammar (r : Report) : Type 0 where

@@ -27,7 +27,8 @@ number_then k name next ls = then_read (number_at k name ls) (λ n. next n.0 n.1
 
 -- the numbers of a header, one line after the other
 abbrev pub executions_then : (Header → Parse) → ℕ → ℕ → ℕ → Parse
-executions_then next n r p = number_then 5 (codes "executions") (λ e. next (record { processes = n; rounds = r; points = p; executions = e }))
+executions_then next n r p =
+    number_then 5 (codes "executions") (λ e. next (record { processes = n; rounds = r; points = p; executions = e }))
 
 abbrev pub points_then : (Header → Parse) → ℕ → ℕ → Parse
 points_then next n r = number_then 4 (codes "points") (executions_then next n r)
@@ -44,7 +45,7 @@ header_then next = fixed_then 1 (codes "wfcheck report 1") (processes_then next)
 
 -- the report of a header and what follows it
 abbrev pub report_from : (reports.Body → reports.Reading reports.Report) → Parse
-report_from next ls = then_read (body_at 2 ls) next
+report_from next ls = then_read (body_at ls) next
 
 -- the report of a header and this body
 abbrev pub report_with : Header → reports.Body → reports.Reading reports.Report
@@ -56,9 +57,9 @@ whole_report = header_then (λ h. report_from (report_with h))
 
 -- the body behind the line that says which answer it is
 abbrev pub body_in : AnswerKind → List (List ℕ) → reports.Reading reports.Body
-body_in Map ls = map_body 2 ls
-body_in Nothing ls = none_body 2 ls
-body_in Least ls = least_body 2 ls
+body_in Map ls = map_body ls
+body_in Nothing ls = none_body ls
+body_in Least ls = least_body ls
 
 abbrev pub body_then : (reports.Body → reports.Reading reports.Report) → AnswerKind → Parse
 body_then next answer ls = then_read (body_in answer ls) next
@@ -67,7 +68,7 @@ body_then next answer ls = then_read (body_in answer ls) next
 
 -- the values at the front, with the lines behind them
 abbrev pub values_then : (List ℕ → Parse) → Parse
-values_then next ls = next (values_at_front 2 ls).0 (values_at_front 2 ls).1
+values_then next ls = next (values_at_front ls).0 (values_at_front ls).1
 
 -- a value at the front, or none
 abbrev pub value_then : (List ℕ → Parse) → Option ℕ → Parse
@@ -86,7 +87,8 @@ AreKept most w w' values (Err e) = Unit {0}
 
 abbrev pub ReadsValues : {A : Type 0} → ℕ → Reading → Reading → Ahead → Ahead → Result (Vec ℕ A) Halt → Type 0
 ReadsValues most old new w w' result =
-    (values : List ℕ) × ((next : List ℕ → Parse) → Reads (values_then next) (λ kept. next values) old new w w' result) × AreKept most w w' values result
+    (values : List ℕ) × ((next : List ℕ → Parse) → Reads (values_then next) (λ kept. next values) old new w w' result)
+    × AreKept most w w' values result
 
 -- ---- steps
 
@@ -118,7 +120,8 @@ ReadsSteps part says old new w w' result =
 abbrev pub map_then : Section → (List ℕ → List Line → reports.Reading reports.Report) → ℕ → Parse
 map_then part next k = values_then (λ values. steps_then part (k + length values) (next values))
 
-abbrev pub ReadsMap : {X : Type 0} → Section → (List ℕ → List Line → X → Type 0) → Reading → Reading → Ahead → Ahead → Result X Halt → Type 0
+abbrev pub ReadsMap : {X : Type 0} → Section → (List ℕ → List Line → X → Type 0) → Reading → Reading → Ahead → Ahead → Result X Halt
+    → Type 0
 ReadsMap part says old new w w' result =
     (values : List ℕ) × (steps : List Line)
     × ((next : List ℕ → List Line → reports.Reading reports.Report) → Reads (map_then part next w.number) (λ x ls. next values steps) old new w w' result)

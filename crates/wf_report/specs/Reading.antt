@@ -36,9 +36,9 @@ Gives view (Err e) reading = IsBad e reading
 
 -- a text within the limit is read as the definitions say; a longer one is too long, whatever it is
 abbrev pub IsRead : Result Report CertFault → List ℕ → Type 0
-IsRead (Ok r) text = (length text ≤ most_bytes) × (report_of 2 text ≡ Ok (report_seen r))
+IsRead (Ok r) text = (length text ≤ most_bytes) × (report_of text ≡ Ok (report_seen r))
 IsRead (Err TooLong) text = most_bytes < length text
-IsRead (Err (Syntax k)) text = (length text ≤ most_bytes) × (report_of 2 text ≡ Err k)
+IsRead (Err (Syntax k)) text = (length text ≤ most_bytes) × (report_of text ≡ Err k)
 IsRead (Err (Header k)) text = ⊥
 IsRead (Err MapLength) text = ⊥
 IsRead (Err (Violates e)) text = ⊥

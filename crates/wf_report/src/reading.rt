@@ -111,7 +111,7 @@ pub fn number_behind(line: &[u8], name: &[u8]) -> Option<u32>
 /// The body, from line 6 on.
 fn read_body(alloc: Global, text: &[u8]) -> Result<Body, CertFault>
     requires { length text.now ≤ LONGEST }
-    ensures body { Gives body_of result (body_at 2 (lines_of text.now)) }
+    ensures body { Gives body_of result (body_at (lines_of text.now)) }
     ensures few { IfOk result (λ body. body_length body ≤ LONGEST) }
 {
     let Some((found, rest)) = cut(text, b'\n') else {
@@ -132,7 +132,7 @@ fn read_body(alloc: Global, text: &[u8]) -> Result<Body, CertFault>
 /// The values of a map, up to the end of the text.
 fn read_map(alloc: Global, text: &[u8]) -> Result<Body, CertFault>
     requires { length text.now ≤ LONGEST }
-    ensures map { Gives body_of result (map_body 2 (lines_of text.now)) }
+    ensures map { Gives body_of result (map_body (lines_of text.now)) }
     ensures few { IfOk result (λ body. body_length body ≤ LONGEST) }
 {
     let (values, rest) = read_values(alloc, text)?;
@@ -144,7 +144,7 @@ fn read_map(alloc: Global, text: &[u8]) -> Result<Body, CertFault>
 /// The lines of a refutation, up to the end of the text.
 fn read_refutation(alloc: Global, text: &[u8]) -> Result<Body, CertFault>
     requires { length text.now ≤ LONGEST }
-    ensures lines { Gives body_of result (none_body 2 (lines_of text.now)) }
+    ensures lines { Gives body_of result (none_body (lines_of text.now)) }
     ensures few { IfOk result (λ body. body_length body ≤ LONGEST) }
 {
     let lines = read_lines(alloc, text, FIRST_LINE, Section::Refutation)?;
@@ -154,7 +154,7 @@ fn read_refutation(alloc: Global, text: &[u8]) -> Result<Body, CertFault>
 /// The values of the least map and the lines that lead to it, up to the end of the text.
 fn read_least(alloc: Global, text: &[u8]) -> Result<Body, CertFault>
     requires { length text.now ≤ LONGEST }
-    ensures least { Gives body_of result (least_body 2 (lines_of text.now)) }
+    ensures least { Gives body_of result (least_body (lines_of text.now)) }
     ensures few { IfOk result (λ body. body_length body ≤ LONGEST) }
 {
     let (values, rest) = read_values(alloc, text)?;
@@ -166,7 +166,7 @@ fn read_least(alloc: Global, text: &[u8]) -> Result<Body, CertFault>
 /// The values of the lines up to the first that has none, and the text from that line on.
 fn read_values<'a>(alloc: Global, text: &'a [u8]) -> Result<(Vec<u8>, &'a [u8]), AllocError>
     ensures front { IfOk result (λ r.
-        values_at_front 2 (lines_of text.now) ≡ (r.0.items, lines_of r.1.now)) }
+        values_at_front (lines_of text.now) ≡ (r.0.items, lines_of r.1.now)) }
     ensures few { IfOk result (λ r. length r.0.items + length r.1.now ≤ length text.now) }
 {
     let mut values = Vec::new(alloc);
@@ -226,7 +226,7 @@ fn put<T: Drop>(list: &mut Vec<T>, one: T) -> Result<(), AllocError>
 /// The value of a line of a map.
 pub fn value_of(line: &[u8]) -> Option<u8>
     requires { lacks 10 line.now ≡ true }
-    ensures { result ≡ value_of_line 2 (line.now ++ 10 ∷ []) }
+    ensures { result ≡ value_of_line (line.now ++ 10 ∷ []) }
 {
     let value = number_behind(line, b"m")?;
     if value > LARGEST {
@@ -250,7 +250,7 @@ pub fn step_in(part: Section, line: &[u8]) -> Option<Line>
 /// The step of a line.
 fn step_of(line: &[u8]) -> Option<Line>
     requires { lacks 10 line.now ≡ true }
-    ensures { option_map line_of result ≡ any_step 2 (line.now ++ 10 ∷ []) }
+    ensures { option_map line_of result ≡ any_step (line.now ++ 10 ∷ []) }
 {
     let Some((name, rest)) = cut(line, b' ') else {
         return end_of(line);
@@ -269,7 +269,7 @@ fn step_of(line: &[u8]) -> Option<Line>
 
 /// The step of a line that is one word.
 fn end_of(word: &[u8]) -> Option<Line>
-    ensures { option_map line_of result ≡ step_of_words 2 (word.now ∷ []) }
+    ensures { option_map line_of result ≡ step_of_words (word.now ∷ []) }
 {
     if word == b"f".as_slice() {
         return Some(Line::Found);
@@ -295,7 +295,7 @@ fn branch_of(point: &[u8]) -> Option<Line>
 
 /// The removal of these words, which are parted by spaces: an execution, a process and a value.
 fn removal_of(numbers: &[u8]) -> Option<Line>
-    ensures { option_map line_of result ≡ step_of_words 2 (codes "p" ∷ words numbers.now) }
+    ensures { option_map line_of result ≡ step_of_words (codes "p" ∷ words numbers.now) }
 {
     let Some((execution, rest)) = cut(numbers, b' ') else {
         return None;

@@ -38,11 +38,11 @@ module _ (t : Task) (r : Report) (faultless : IsFaultless t r) where
   pub accepts_text : (rounds : Option ℕ) (answer : Result (Accepted × List ℕ) RunFault) → AreAsked rounds r.rounds → IsInGrammar r → length (report_text r) ≤ most_bytes
       → ChecksText most_bytes rounds t (report_text r) answer → Accepts (accepted_of r.body) answer
   accepts_text rounds answer asked grammar few (Ok read, is, next) =
-      let known : report_of 2 (report_text r) ≡ Ok r = written_read r grammar in
+      let known : report_of (report_text r) ≡ Ok r = written_read r grammar in
       let same : read ≡ r = cc in
       accepts_for rounds answer asked (subst (λ x. IsVerifiedFor rounds (IsAccepted rounds) t x answer) same next)
   accepts_text rounds answer asked grammar few (Err (run.Cert (amiss.Syntax k)), is, next) =
-      let known : report_of 2 (report_text r) ≡ Ok r = written_read r grammar in
+      let known : report_of (report_text r) ≡ Ok r = written_read r grammar in
       absurd (let bad : ⊥ = cc in bad)
   accepts_text rounds answer asked grammar few (Err run.TooLong, inl is, next) = absurd (omega (arith, few, is))
   accepts_text rounds answer asked grammar few (Err run.TooLong, inr is, next) = absurd (let lines = few_lines (report_text r) in omega (arith, few, is, lines))

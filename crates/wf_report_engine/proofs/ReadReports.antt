@@ -13,5 +13,5 @@ use Rattle.wf_verify_engine.specs.Verify.{IsFaultless, IsReportOf}
 -- the source gave the text of a report that is accepted
 pub gave_report : (old new : Reading) (t : Task) (r : Report) → Reads (IsReportOf most_bytes) old new (Ok r) → IsFaultless t r → Gave old new (text_of_report t r.rounds r.body) 0
 gave_report old new t r (Ok text, (given, gave, is), judged) faultless =
-    subst (λ x. Gave old new x 0) (written_as_read given t r (ap (report_of 2) (sym is.0) ∙ judged) faultless) gave
+    subst (λ x. Gave old new x 0) (written_as_read given t r (ap report_of (sym is.0) ∙ judged) faultless) gave
 gave_report old new t r (Err e, reads, judged) faultless = absurd (let bad : ⊥ = cc in bad)

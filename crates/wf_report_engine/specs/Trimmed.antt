@@ -19,7 +19,8 @@ use Rattle.wf_report_engine.specs.Trimming.{IsShorter, Trims}
 -- answer is accepted, or memory ran out
 abbrev pub IsAcceptedText : Task → ℕ → Body → List ℕ → Type 0
 IsAcceptedText t r body text =
-    (rounds : Option ℕ) (answer : Result (Accepted × List ℕ) RunFault) → AreAsked rounds r → ChecksText most_bytes rounds t text answer → Accepts (accepted_of body) answer
+    (rounds : Option ℕ) (answer : Result (Accepted × List ℕ) RunFault) → AreAsked rounds r → ChecksText most_bytes rounds t text answer
+    → Accepts (accepted_of body) answer
 
 -- The text of the report with this answer about a task and its r rounds: it is true, has at most as
 -- many bytes as a text may have, is read as that report, and a check of it accepts it.
@@ -27,7 +28,7 @@ pub record IsGoodText (t : Task) (r : ℕ) (body : Body) (text : List ℕ) : Typ
   pub text_is : text ≡ text_of_report t r body
   pub holds : HoldsOf t r body
   pub few_bytes : length text ≤ most_bytes
-  pub read : report_of 2 text ≡ Ok (report_about t r body)
+  pub read : report_of text ≡ Ok (report_about t r body)
   pub accepted : IsAcceptedText t r body text
 
 -- Where a trimming ends well, it was given a report that is true, and the sink took such a text

@@ -68,7 +68,8 @@ Answers is_text t r (Ok answer) = HasComplex t r × is_text t r answer.0 answer.
 Answers is_text t r (Err e) = IsBeyondLimits t r e
 
 -- what is answered about the source's task
-abbrev pub AsksOfTask : {X : Type 0} → (Task → Result (X × List ℕ) RunFault → Type 0) → Reading → Reading → Result (X × List ℕ) RunFault → Type 0
+abbrev pub AsksOfTask : {X : Type 0} → (Task → Result (X × List ℕ) RunFault → Type 0) → Reading → Reading
+    → Result (X × List ℕ) RunFault → Type 0
 AsksOfTask answers old new result =
     (task : Result Task RunFault) × Reads IsTaskOf old new task × Next answers task result
 

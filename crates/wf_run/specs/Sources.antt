@@ -13,7 +13,8 @@ abbrev pub ReadsAbout : Type 1
 ReadsAbout = Task → ℕ → Reading → Reading → Result (Unit {0} × List ℕ) RunFault → Type 0
 
 -- the next step, which reads a source; after a refusal it is left alone
-abbrev pub NextReads : {X Y : Type 0} → (X → Reading → Reading → Result Y RunFault → Type 0) → Reading → Reading → Result X RunFault → Result Y RunFault → Type 0
+abbrev pub NextReads : {X Y : Type 0} → (X → Reading → Reading → Result Y RunFault → Type 0) → Reading → Reading → Result X RunFault
+    → Result Y RunFault → Type 0
 NextReads step old new (Ok x) result = step x old new result
 NextReads step old new (Err e) result = (result ≡ Err e) × (new ≡ old)
 
@@ -29,7 +30,8 @@ AsksWithin reads r t old new result =
 
 -- the task is read, and then the other source about the task; if there is no task, the other source
 -- is left alone
-abbrev pub AsksPair : {X : Type 0} → (Task → Reading → Reading → Result (X × List ℕ) RunFault → Type 0) → Reading → Reading → Reading → Reading → Result (X × List ℕ) RunFault → Type 0
+abbrev pub AsksPair : {X : Type 0} → (Task → Reading → Reading → Result (X × List ℕ) RunFault → Type 0) → Reading → Reading → Reading
+    → Reading → Result (X × List ℕ) RunFault → Type 0
 AsksPair asks task task' other other' result =
     (t : Result Task RunFault) × Reads IsTaskOf task task' t × NextReads asks other other' t result
 

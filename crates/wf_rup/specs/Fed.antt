@@ -136,7 +136,8 @@ abbrev pub IsTurned : Turn → ℕ → State → State → Known → Known → B
 IsTurned Ends byte state next old new refuted =
     (next ≡ state_after Ends byte state) × (refuted ≡ new.is_refuted) × TakesStep (step_of state) old new
 IsTurned (Stops flaw) byte state next old new refuted = ⊥
-IsTurned (GoesOn reading) byte state next old new refuted = (next ≡ state_after (GoesOn reading) byte state) × (refuted ≡ false) × (new ≡ old)
+IsTurned (GoesOn reading) byte state next old new refuted =
+    (next ≡ state_after (GoesOn reading) byte state) × (refuted ≡ false) × (new ≡ old)
 IsTurned BeginsDeletion byte state next old new refuted = (next ≡ state_after BeginsDeletion byte state) × (refuted ≡ false) × (new ≡ old)
 IsTurned (Takes literal) byte state next old new refuted = (next ≡ state_after (Takes literal) byte state) × (refuted ≡ false) × (new ≡ old)
 

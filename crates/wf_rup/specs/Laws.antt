@@ -12,4 +12,5 @@ WhatFollowsIsEntailed = (known : Known) (clause : Clause) → FollowsByPropagati
 -- a clause that follows or is RAT on its first literal may be added: each model of what is known
 -- can be changed into one that satisfies the clause too
 abbrev pub WhatIsJustifiedIsRedundant : Type 0
-WhatIsJustifiedIsRedundant = (known : Known) (clause : Clause) → FollowsByPropagation known clause ⊎ IsRat known clause → IsRedundant known clause
+WhatIsJustifiedIsRedundant =
+    (known : Known) (clause : Clause) → FollowsByPropagation known clause ⊎ IsRat known clause → IsRedundant known clause

@@ -32,11 +32,13 @@ AddsClause clause old new =
 
 -- each model of the clauses in which these literals hold satisfies the clause
 abbrev pub Implies : List (List ℕ) → List ℕ → List ℕ → Type 0
-Implies clauses trail clause = (a : Assignment) → is_model_of_codes a clauses ≡ true → hold_codes a trail ≡ true → satisfies_codes a clause ≡ true
+Implies clauses trail clause =
+    (a : Assignment) → is_model_of_codes a clauses ≡ true → hold_codes a trail ≡ true → satisfies_codes a clause ≡ true
 
 -- the literal holds in each model of the clauses in which these literals hold
 abbrev pub IsForced : List (List ℕ) → List ℕ → ℕ → Type 0
-IsForced clauses trail literal = (a : Assignment) → is_model_of_codes a clauses ≡ true → hold_codes a trail ≡ true → holds_code a literal ≡ true
+IsForced clauses trail literal =
+    (a : Assignment) → is_model_of_codes a clauses ≡ true → hold_codes a trail ≡ true → holds_code a literal ≡ true
 
 -- in no model of the clauses these literals hold
 abbrev pub Conflicts : List (List ℕ) → List ℕ → Type 0

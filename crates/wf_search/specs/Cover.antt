@@ -45,11 +45,13 @@ IsFilled cover lists lines = map line_of lines.items ≡ filled cover (each_seen
 
 -- the lines refute the root, if each list refutes its branch
 abbrev pub RefutesRoot : {A B : Type 0} → List Item → List (Vec Line A) → Vec Line B → Type 0
-RefutesRoot cover lists lines = (p : Problem) → cover ≡ outline p → RefuteBranches p (each_seen lists) → IsRefutedBy p (root p) (map line_of lines.items)
+RefutesRoot cover lists lines =
+    (p : Problem) → cover ≡ outline p → RefuteBranches p (each_seen lists) → IsRefutedBy p (root p) (map line_of lines.items)
 
 -- the lines are the canonical ones of the root, if each list has the canonical lines of its branch
 abbrev pub IsCanonicalInRoot : {A B : Type 0} → List Item → List (Vec Line A) → Vec Line B → Type 0
-IsCanonicalInRoot cover lists lines = (p : Problem) → cover ≡ outline p → AreCanonicalForBranches p (each_seen lists) → HasCanonicalLines p (root p) (map line_of lines.items)
+IsCanonicalInRoot cover lists lines =
+    (p : Problem) → cover ≡ outline p → AreCanonicalForBranches p (each_seen lists) → HasCanonicalLines p (root p) (map line_of lines.items)
 
 -- the lines are the cover's up to the last list, with those of the lists in
 -- the places of the first branches
@@ -60,4 +62,5 @@ IsFilledUpTo cover lists lines = map line_of lines.items ≡ filled_up_to cover 
 -- the first branches
 abbrev pub LeadsToMapInRoot : {A B : Type 0} → List Item → List (Vec Line A) → Vec Line B → Type 0
 LeadsToMapInRoot cover lists lines =
-    (p : Problem) (m : List ℕ) → cover ≡ outline p → LeadToMap p m (split p) (each_seen lists) → HasCanonicalMap p m (root p) (map line_of lines.items)
+    (p : Problem) (m : List ℕ) → cover ≡ outline p → LeadToMap p m (split p) (each_seen lists)
+    → HasCanonicalMap p m (root p) (map line_of lines.items)

@@ -126,6 +126,7 @@ pub fn split_with(
     ensures closed { IfOk result (AreClosedBranches problem.now) }
     ensures answers { OnOk result (ServeFor problem.now answers.new) }
 {
+    // for the proof alone, which reads what holds of every problem
     let _points = problem.points();
     let mut outline = Outline::of_root(alloc, problem, answers)?;
     let mut levels: u32 = MOST_LEVELS;

@@ -44,6 +44,7 @@ pub fn search_map<S: Stop>(
     ensures stopped { IfOk result (OnMapStopped (S.is_stopped stop.new)) }
     ensures answers { ServeFor problem.now answers.new }
 {
+    // for the proof alone, which reads what holds of every problem
     let _points = problem.points();
     let mut first = boxed;
     first.swap_answers(answers);

@@ -22,7 +22,8 @@ Did {X = X} does task task' source source' sink sink' result =
 -- One file was asked for and opened, this was done with its task and the
 -- source's text, and the file's source is kept as it was left. Or it can't be
 -- opened, which is a failed read, and nothing was read or written.
-abbrev pub WithFile : {F : Type 0} → (Opening → Type 0) → DoesBoth (Unit {0}) → Filing F → Filing F → Reading → Reading → Writing → Writing → Result (Unit {0}) RunFault → Type 0
+abbrev pub WithFile : {F : Type 0} → (Opening → Type 0) → DoesBoth (Unit {0}) → Filing F → Filing F → Reading → Reading → Writing
+    → Writing → Result (Unit {0}) RunFault → Type 0
 WithFile comes does folder folder' source source' sink sink' result =
     ((left : Option (List ℕ)) × (file' : Reading) × comes (opened left) × (folder' ≡ after_asking folder 0 (Some file'))
     × does (unread left) file' source source' sink sink' result)

@@ -32,7 +32,8 @@ unread left = record { left = left; failures = 0; taken = 0 }
 -- one more file was asked for, and so many that could not be opened; this is its source as it was
 -- left, where it was opened
 abbrev pub after_asking : {F : Type 0} → Filing F → ℕ → Option Reading → Filing F
-after_asking folder failed kept = record { files = folder.files; asked = folder.asked + 1; failures = folder.failures + failed; kept = kept }
+after_asking folder failed kept =
+    record { files = folder.files; asked = folder.asked + 1; failures = folder.failures + failed; kept = kept }
 
 -- how it went with a file whose source was left so, or that could not be opened
 abbrev pub state_of : Option Reading → FileState

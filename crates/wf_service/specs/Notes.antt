@@ -57,7 +57,8 @@ build_note build.OutOfMemory = None
 abbrev pub report_note : CertFault → Option (List ℕ)
 report_note (amiss.Syntax line) =
     if line == 1 then Some (codes "standard input has no report; a task goes behind --task, a solver's proof to `wfcheck proof`, an obstruction to verify or explain") else None
-report_note (amiss.Header line) = Some (codes "the number in this line is not that of the task: the text may be about another task or other rounds")
+report_note (amiss.Header line) =
+    Some (codes "the number in this line is not that of the task: the text may be about another task or other rounds")
 report_note amiss.Unfinished = Some (codes "the lines of the report end too soon; `wfcheck solve --verdict` leaves them out")
 report_note e = None
 

@@ -31,7 +31,8 @@ refusal_line program name = program ++ (codes ": " ++ (name ++ 10 ∷ []))
 -- what a program tells of a refusal, where it is known
 abbrev pub refusal_text : List ℕ → Refusal → Option (List ℕ)
 refusal_text program (Run e) = Some (refusal_line program (fault_text e) ++ note_line (note_of e))
-refusal_text program (RunWithFile e file) = Some (refusal_line program (fault_text e) ++ (note_line (file_note e file) ++ note_line (note_of e)))
+refusal_text program (RunWithFile e file) =
+    Some (refusal_line program (fault_text e) ++ (note_line (file_note e file) ++ note_line (note_of e)))
 refusal_text program (Words mistake) = Some (refusal_line program (codes "32 Words") ++ mistake_line mistake)
 refusal_text program (Clap e negative parser) = None
 

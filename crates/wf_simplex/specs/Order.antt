@@ -32,7 +32,8 @@ second_equal Greater s h = cc
 pub nat_cmp-Equal : (x y : ℕ) → nat_cmp x y ≡ Equal → x ≡ y
 nat_cmp-Equal x y h = ranked x y Equal (sym h)
 
-pub slice_cmp-Equal : {X : Type 0} (R : X → X → Ordering) → ((x y : X) → R x y ≡ Equal → x ≡ y) → (xs ys : List X) → slice_cmp R xs ys ≡ Equal → xs ≡ ys
+pub slice_cmp-Equal : {X : Type 0} (R : X → X → Ordering) → ((x y : X) → R x y ≡ Equal → x ≡ y) → (xs ys : List X) → slice_cmp R xs ys
+    ≡ Equal → xs ≡ ys
 slice_cmp-Equal R same [] [] h = refl
 slice_cmp-Equal R same [] (y ∷ ys) h = cc
 slice_cmp-Equal R same (x ∷ xs) [] h = cc
@@ -49,7 +50,8 @@ vertex_cmp-Equal v w h =
 
 -- simplices that the order does not tell apart are one
 pub simplex_cmp-Equal : (s t : Simplex) → simplex_cmp s t ≡ Equal → s ≡ t
-simplex_cmp-Equal s t h = slice_cmp-Equal vertex_cmp vertex_cmp-Equal s t (second_equal (nat_cmp (length s) (length t)) (slice_cmp vertex_cmp s t) h)
+simplex_cmp-Equal s t h =
+    slice_cmp-Equal vertex_cmp vertex_cmp-Equal s t (second_equal (nat_cmp (length s) (length t)) (slice_cmp vertex_cmp s t) h)
 
 and_first : (a b : Bool) → (a && b) ≡ true → a ≡ true
 and_first true b h = refl

@@ -123,7 +123,8 @@ place_in-word_at n index h =
 pub index_of-word_at : (n index : ℕ) → IsInTable n index → index_of (word_at n index) ≡ index
 index_of-word_at n index h =
     let size = length-word_at n index h in
-    ap (λ m. start_of m + place_in (words_of m) (word_at n index)) size ∙ ap (λ k. start_of n + k) (place_in-word_at n index h) ∙ omega (arith, h.from)
+    ap (λ m. start_of m + place_in (words_of m) (word_at n index)) size ∙ ap (λ k. start_of n + k) (place_in-word_at n index h)
+    ∙ omega (arith, h.from)
 
 words_1 : words 1 1 ≡ words_of 1
 unfolding words_of

@@ -6,7 +6,6 @@ pub use Rattle.wf_task.proofs.EntrySlots.{inner}
 pub use Rattle.wf_task.proofs.ExtendedValues.{length-zip-same, map-part, named, processes-zip-same, repeated, single-part, sorted-zips, unzipped}
 pub use Rattle.wf_task.proofs.Facets.{facets-pure, vertex_of_part}
 pub use Rattle.wf_task.proofs.Images.{complex_of-same, facet-in, has-images, images, images-has, nonempty-long, part-face}
-pub use Rattle.wf_task.proofs.Judged.{limit-few}
 pub use Rattle.wf_task.proofs.Listings.{below-has, each_has, get_or-lists_of, has-below, has-lists_of, has_each, length-among, length-lists_of, length-pieces, list_at, lists_of-has, some_lists, sorted-below, sorted-lists_of, sorted-pairs}
 pub use Rattle.wf_task.proofs.RowLemmas.{tuple_cmp-Equal, value_there}
 pub use Rattle.wf_task.proofs.Sizes.{sum_by-map}

@@ -47,7 +47,8 @@ names_processes n s = is_ascending (processes_of s) && list_all (λ p. nat_lt p 
 
 -- each listed simplex has processes in order, below the number of processes
 abbrev pub all_processes_named : Listed → Bool
-all_processes_named listed = list_all (names_processes listed.processes) listed.inputs && list_all (names_processes listed.processes) listed.outputs
+all_processes_named listed =
+    list_all (names_processes listed.processes) listed.inputs && list_all (names_processes listed.processes) listed.outputs
     && list_all (λ rule. names_processes listed.processes rule.input) listed.delta
 
 abbrev pub rule_names_processes : ℕ → Rule → Bool
@@ -71,13 +72,13 @@ tuples_for listed s = flat_map (λ rule. rule.tuples) (entries_for listed s)
 abbrev pub wrong_length : Listed → Simplex → Option ℕ
 wrong_length listed s = position_from (λ tuple. not (length tuple == length s)) 0 (tuples_for listed s)
 
--- the place of the first value list that is no output simplex
-abbrev pub no_output : Listed → Simplex → Option ℕ
-no_output listed s = position_from (λ tuple. not (is_among (complex_of listed.outputs) (zip (processes_of s) tuple))) 0 (tuples_for listed s)
-
 -- the values on the processes of the simplex are a simplex of the complex
 abbrev pub is_image_in : List Simplex → Simplex → Tuple → Bool
 is_image_in complex s tuple = is_among complex (zip (processes_of s) tuple)
+
+-- the place of the first value list that is no output simplex
+abbrev pub no_output : Listed → Simplex → Option ℕ
+no_output listed s = position_from (λ tuple. not (is_image_in (complex_of listed.outputs) s tuple)) 0 (tuples_for listed s)
 
 -- the place of the first entry that is for no input simplex
 abbrev pub first_stray : List Simplex → List Rule → Option ℕ
@@ -128,7 +129,7 @@ unfoldable pub entries_judged : Listed → List Simplex → Result (Unit {0}) Ta
 entries_judged listed inputs = do
   missing ← refused_at (position_from (λ s. length (entries_for listed s) == 0) 0 inputs) fault.DeltaMissing
   twice ← refused_at (position_from (λ s. nat_lt 1 (length (entries_for listed s))) 0 inputs) fault.DeltaTwice
-  refused_at (position_from (λ rule. not (is_among inputs rule.input)) 0 listed.delta) fault.DeltaStray
+  refused_at (first_stray inputs listed.delta) fault.DeltaStray
 
 -- 12 and 13: of the value lists
 unfoldable pub tuples_judged : Listed → List Simplex → Result (Unit {0}) TaskFault
@@ -159,7 +160,7 @@ judged listed = do
   entries ← entries_judged listed (complex_of listed.inputs)
   tuples ← tuples_judged listed (complex_of listed.inputs)
   input ← refused_if (length listed.inputs == 0) fault.NoInput
-  first_block ← refused_if (not (is_first_block listed.least_block)) fault.FirstBlock
+  first_block ← first_block_judged listed.least_block
   Ok (drafted listed)
 
 -- the task of a JSON value, or the first fault
@@ -168,4 +169,5 @@ task_of_json d = draft_of d >>= judged
 
 -- the task of a text, or the first fault
 unfoldable pub task_of_text : List ℕ → Result Task TaskFault
-task_of_text bytes = if nat_lt most_bytes (length bytes) then Err fault.TooLong else (or_fault fault.NotJson (json_of bytes) >>= task_of_json)
+task_of_text bytes =
+    if nat_lt most_bytes (length bytes) then Err fault.TooLong else (or_fault fault.NotJson (json_of bytes) >>= task_of_json)

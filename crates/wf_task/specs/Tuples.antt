@@ -17,7 +17,8 @@ pub record IsTupleOf (n : ℕ) (tuple : Tuple) : Type 0 where
 
 -- the value lists for each input simplex have a value for each of its processes
 pub record AreTuples (listed : Listed) (inputs : List Simplex) : Type 0 where
-  pub each : (i : ℕ) → i < length inputs → All (IsTupleOf (length (slice_index_or inputs i []))) (tuples_for listed (slice_index_or inputs i []))
+  pub each : (i : ℕ) → i < length inputs
+      → All (IsTupleOf (length (slice_index_or inputs i []))) (tuples_for listed (slice_index_or inputs i []))
 
 -- one to four values, each at most 255
 pub record IsRow (values : List ℕ) : Type 0 where

@@ -51,6 +51,23 @@ impl Row {
         }
     }
 
+    /// The row of these values.
+    pub(crate) fn of_values(values: &[u64]) -> Row
+        requires some { 1 ≤ length values.now }
+        requires few { length values.now ≤ 4 }
+        requires small { All (λ x. x ≤ 255) values.now }
+        ensures { result ≡ values.now }
+    {
+        let mut row = [0; 4];
+        for (place, value) in values.iter().enumerate() {
+            row[place] = *value as u8;
+        }
+        Row {
+            size: values.len() as u8,
+            values: row,
+        }
+    }
+
     /// How many values there are.
     pub fn size(&self) -> u8
         ensures count { result ≡ length self.now }

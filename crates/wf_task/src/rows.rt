@@ -22,11 +22,7 @@ fn row_of(values: &[u64]) -> Row
     requires { IsRow values.now }
     ensures { result ≡ values.now }
 {
-    let mut small = [0u8; 4];
-    for (place, value) in values.iter().enumerate() {
-        small[place] = *value as u8;
-    }
-    Row::new(&small[..values.len()])
+    Row::of_values(values)
 }
 
 /// The rows of value lists: ascending, each once. It takes n log n steps, and five bytes a list.

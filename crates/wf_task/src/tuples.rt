@@ -1,6 +1,6 @@
 //! The tuples of the entries of delta.
 
-ghost use Rattle.std.specs.Prelude.{◌≡◌, ◌==◌, ◌≤◌, false, All, map, not, zip, length};
+ghost use Rattle.std.specs.Prelude.{◌≡◌, ◌==◌, ◌≤◌, false, All, Contains, IfSome, IsNone, Some, map, not, slice_get, zip, length};
 ghost use Rattle.std.specs.List.{position_from};
 ghost use Rattle.wf_model.specs.Limits.{most_inputs, most_tuples};
 ghost use Rattle.wf_model.specs.Simplex.{processes_of, complex_of};
@@ -52,17 +52,31 @@ fn on_processes(simplex: &Simplex, values: &[u64]) -> Simplex
     Simplex::of_pairs(&pairs[..size as usize])
 }
 
-/// The place of the first value list that is no output simplex on the
-/// processes of the input simplex.
+/// The place of a simplex, if it is one of the complex. The place that is guessed is tried first.
+fn place_near(complex: &Complex, simplex: Simplex, guess: u32) -> Option<u32>
+    ensures place { IfSome result (λ i. slice_get complex.now i ≡ Some simplex) }
+    ensures absent { IsNone result → Contains complex.now simplex → ⊥ }
+{
+    let simplices = complex.simplices();
+    let place = guess as usize;
+    if place < simplices.len() && simplices[place] == simplex {
+        return Some(guess);
+    }
+    complex.index(&simplex)
+}
+
+/// The place of the first value list that is no output simplex on the processes of the input
+/// simplex. Lists that ascend lie mostly one after another in the outputs.
 fn no_output(outputs: &Complex, simplex: &Simplex, lists: &[ValueList]) -> Option<usize>
     requires { All (IsTupleOf (length simplex.now)) (map (λ t. t.items) lists.now) }
     ensures { result ≡ position_from (λ tuple. not (is_image_in outputs.now simplex.now tuple)) 0
         (map (λ t. t.items) lists.now) }
 {
+    let mut guess = 0u32;
     for (place, list) in lists.iter().enumerate() {
-        let stray = !outputs.contains(&on_processes(simplex, list));
-        if stray {
-            return Some(place);
+        match place_near(outputs, on_processes(simplex, list), guess) {
+            Some(found) => guess = found.wrapping_add(1),
+            None => return Some(place),
         }
     }
     None

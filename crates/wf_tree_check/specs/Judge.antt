@@ -31,7 +31,8 @@ each_judged one (part ∷ parts) k nodes = elim (one part k nodes) [
 -- many nodes with others below them may stand above one another from there on.
 abbrev pub judged : ℕ → Task → ℕ → List Node → Judged
 judged levels t k [] = Err (NoNode k)
-judged levels t k (balance_node modulus sum xs ∷ nodes) = elim (balance_fault t modulus sum xs) [ None ↦ Ok (suc k, nodes) | Some fault ↦ Err (NoBalance k fault) ]
+judged levels t k (balance_node modulus sum xs ∷ nodes) =
+    elim (balance_fault t modulus sum xs) [ None ↦ Ok (suc k, nodes) | Some fault ↦ Err (NoBalance k fault) ]
 judged zero t k (case_node simplex ∷ nodes) = Err (TooLarge k Depth)
 judged zero t k (split_node simplex ∷ nodes) = Err (TooLarge k Depth)
 judged zero t k (cover_node simplex sheets corner moves ∷ nodes) = Err (TooLarge k Depth)

@@ -20,7 +20,8 @@ multiplier weight simplex place others = record { simplex = simplex; place = pla
 abbrev hourglass : List Node
 hourglass = split_node 6 ∷ balance_node 2 1 (multiplier 1 1 0 [] ∷ multiplier 1 3 0 (1 ∷ []) ∷ multiplier 1 3 1 (1 ∷ []) ∷ []) ∷ []
 
-pub hourglass_text : obstruction_text (of_three hourglass) ≡ codes "wfcheck obstruction 1\nprocesses 3\nsimplices 7\nsplit 6\nbalance 2 1\nm 1 1 0\nm 1 3 0 1\nm 1 3 1 1\nend\n"
+pub hourglass_text : obstruction_text (of_three hourglass)
+    ≡ codes "wfcheck obstruction 1\nprocesses 3\nsimplices 7\nsplit 6\nbalance 2 1\nm 1 1 0\nm 1 3 0 1\nm 1 3 1 1\nend\n"
 unfolding digits
 hourglass_text = refl
 
@@ -35,7 +36,8 @@ last_multiplier = refl
 abbrev turned : Move
 turned = record { first = 0; value = 1; second = 2; other = 3; sheets = 1 ∷ 0 ∷ [] }
 
-pub cover_read : read (codes "cover 6 2 5\np 0 1 2 3 1 0\ncase 4\nend\n") ≡ Ok (of_three (cover_node 6 2 5 (turned ∷ []) ∷ case_node 4 ∷ []))
+pub cover_read : read (codes "cover 6 2 5\np 0 1 2 3 1 0\ncase 4\nend\n")
+    ≡ Ok (of_three (cover_node 6 2 5 (turned ∷ []) ∷ case_node 4 ∷ []))
 cover_read = refl
 
 -- ---- bad lines
@@ -53,7 +55,8 @@ pub multiplier_twice : read (codes "balance 2 1\nm 1 3 0 1\nm 1 3 0 1\nend\n") �
 multiplier_twice = refl
 
 -- the values of the others come last in the order
-pub multipliers_ascend : read (codes "balance 2 1\nm 1 3 0 1\nm 1 3 1 0\nm 1 4 0\nend\n") ≡ Ok (of_three (balance_node 2 1 (multiplier 1 3 0 (1 ∷ []) ∷ multiplier 1 3 1 (0 ∷ []) ∷ multiplier 1 4 0 [] ∷ []) ∷ []))
+pub multipliers_ascend : read (codes "balance 2 1\nm 1 3 0 1\nm 1 3 1 0\nm 1 4 0\nend\n")
+    ≡ Ok (of_three (balance_node 2 1 (multiplier 1 3 0 (1 ∷ []) ∷ multiplier 1 3 1 (0 ∷ []) ∷ multiplier 1 4 0 [] ∷ []) ∷ []))
 multipliers_ascend = refl
 
 -- there may be no node, and nothing comes behind the end

@@ -111,7 +111,8 @@ cover_of (simplex ∷ sheets ∷ corner ∷ n ∷ ns) = None
 
 -- two places, in order, and a value at each
 abbrev pub goes_over : ℕ → ℕ → ℕ → ℕ → Bool
-goes_over first value second other = (nat_lt first second && nat_lt second most_processes) && (nat_le value most_value && nat_le other most_value)
+goes_over first value second other =
+    (nat_lt first second && nat_lt second most_processes) && (nat_le value most_value && nat_le other most_value)
 
 -- sheets, each below their number
 abbrev pub are_sheets : List ℕ → Bool
@@ -185,7 +186,8 @@ abbrev pub with_move : Move → Node → Option Node
 with_move move (case_node simplex) = None
 with_move move (split_node simplex) = None
 with_move move (cover_node simplex sheets corner moves) =
-    if (length move.sheets == sheets) && may_follow move_key moves move then Some (cover_node simplex sheets corner (moves ++ move ∷ [])) else None
+    if (length move.sheets == sheets) && may_follow move_key moves move
+    then Some (cover_node simplex sheets corner (moves ++ move ∷ [])) else None
 with_move move (balance_node modulus sum xs) = None
 
 -- a balance with one more multiplier
@@ -193,7 +195,8 @@ abbrev pub with_multiplier : Multiplier → Node → Option Node
 with_multiplier x (case_node simplex) = None
 with_multiplier x (split_node simplex) = None
 with_multiplier x (cover_node simplex sheets corner moves) = None
-with_multiplier x (balance_node modulus sum xs) = if may_follow multiplier_key xs x then Some (balance_node modulus sum (xs ++ x ∷ [])) else None
+with_multiplier x (balance_node modulus sum xs) =
+    if may_follow multiplier_key xs x then Some (balance_node modulus sum (xs ++ x ∷ [])) else None
 
 -- what becomes of the nodes if this becomes of the last
 abbrev pub at_last : (Node → Option Node) → List Node → Option (List Node)

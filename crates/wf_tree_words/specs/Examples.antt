@@ -34,7 +34,8 @@ symmetry_breaking_in_words = refl
 -- ---- nodes
 
 -- a vertex has one part for each value, so a value is never decided beside two
-pub nothing_taken_apart : argument_text (hourglass 1) (split_node 0 ∷ []) ≡ codes "No decision map after any number of rounds.\n\nSuppose that there is a decision map.\nOn {p0=0} no value is taken apart.\n"
+pub nothing_taken_apart : argument_text (hourglass 1) (split_node 0 ∷ [])
+    ≡ codes "No decision map after any number of rounds.\n\nSuppose that there is a decision map.\nOn {p0=0} no value is taken apart.\n"
 unfolding digits
 nothing_taken_apart = refl
 

@@ -34,7 +34,8 @@ abbrev pub tuples_text : {X : Type 0} → (X → List ℕ) → List X → List �
 tuples_text text xs =
     if nat_le (length xs) most_told
     then list_text text (codes ", ") (codes " or ") xs
-    else list_text text (codes ", ") (codes ", ") (take most_told xs) ++ (codes ", or one of " ++ (decimal (length xs - most_told) ++ codes " more"))
+    else list_text text (codes ", ") (codes ", ") (take most_told xs)
+    ++ (codes ", or one of " ++ (decimal (length xs - most_told) ++ codes " more"))
 
 -- p0=1
 abbrev pub vertex_text : Vertex → List ℕ
@@ -128,14 +129,16 @@ abbrev pub parts_text : Simplex → ℕ → List ℕ
 parts_text s count =
     if length s == 1
     then codes " there is one execution, which decides one of " ++ (decimal count ++ codes " values.\n")
-    else codes " all executions decide tuples of one part of " ++ (decimal count ++ codes ": they are joined by changes of a single view.\n")
+    else codes " all executions decide tuples of one part of "
+    ++ (decimal count ++ codes ": they are joined by changes of a single view.\n")
 
 abbrev pub case_text : ℕ → Simplex → ℕ → List ℕ
 case_text depth s count = indent_text depth ++ (codes "On " ++ (simplex_text s ++ parts_text s count))
 
 -- the part of this number, from 0 on
 abbrev pub part_text : ℕ → ℕ → List Tuple → List ℕ
-part_text depth number tuples = indent_text depth ++ (codes "Part " ++ (decimal (number + 1) ++ (codes ": " ++ (tuples_text values_text tuples ++ codes ".\n"))))
+part_text depth number tuples =
+    indent_text depth ++ (codes "Part " ++ (decimal (number + 1) ++ (codes ": " ++ (tuples_text values_text tuples ++ codes ".\n"))))
 
 -- ---- splits
 
@@ -153,7 +156,8 @@ called s place name = filter (λ tuple. s.name place tuple == name) s.rule.tuple
 
 -- 1 of p0 is called 3 in
 abbrev pub named_text : ℕ → ℕ → ℕ → List ℕ
-named_text value process name = decimal value ++ (codes " of " ++ (process_text false process ++ (codes " is called " ++ (decimal name ++ codes " in "))))
+named_text value process name =
+    decimal value ++ (codes " of " ++ (process_text false process ++ (codes " is called " ++ (decimal name ++ codes " in "))))
 
 -- 1 of p0 is called 3 in 1 1 1
 abbrev pub call_text : Splitting → ℕ × ℕ → List ℕ
@@ -203,7 +207,9 @@ lying_text sheets = codes " and its faces values lie on sheets 0 to " ++ (decima
 
 -- new names begin with this one
 abbrev pub naming_text : ℕ → List ℕ
-naming_text new = codes " alone is on sheet 0. Value V on sheet S is called V + S * " ++ (decimal new ++ codes ". Values of one execution lie on one sheet")
+naming_text new =
+    codes " alone is on sheet 0. Value V on sheet S is called V + S * "
+    ++ (decimal new ++ codes ". Values of one execution lie on one sheet")
 
 abbrev pub cover_text : ℕ → Simplex → ℕ → ℕ → ℕ → List Move → List ℕ
 cover_text depth s new sheets corner moves =

@@ -45,6 +45,7 @@ fn put_vertex(text: &mut String, simplex: &Simplex, place: u8, told: u8) -> Resu
     ensures { OnOk result (string_bytes text.new ≡ string_bytes text.old
         ++ (before_at (codes ", ") told ++ vertex_in simplex.now place)) }
 {
+    // for the proof alone, which reads what holds of every simplex
     let _ = simplex.colours();
     let before = before_at(", ", told as usize);
     let process = simplex.colour(place);
@@ -86,6 +87,7 @@ fn place_in_face(simplex: &Simplex, skipped: u8, told: u8) -> u8
     ensures same { slice_index_or simplex.now result (0, 0)
         ≡ slice_index_or (remove simplex.now skipped) told (0, 0) }
 {
+    // for the proof alone, which reads what holds of every simplex
     let _ = simplex.colours();
     if told < skipped { told } else { told + 1 }
 }

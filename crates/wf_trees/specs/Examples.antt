@@ -26,11 +26,13 @@ settled t modulus xs = map (λ rule. list_all (counts_nothing t modulus xs rule.
 
 -- The process with input 0 decides 0 alone: this counts 1 in its own equation, and is taken away
 -- once where the other takes part.
-pub zero_alone : weight_with consensus (one_decides_0 2) ((0, 0) ∷ []) (0 ∷ []) ∷ weight_without consensus (one_decides_0 2) ((0, 0) ∷ []) (0 ∷ []) ∷ [] ≡ 1 ∷ 1 ∷ []
+pub zero_alone : weight_with consensus (one_decides_0 2) ((0, 0) ∷ []) (0 ∷ [])
+    ∷ weight_without consensus (one_decides_0 2) ((0, 0) ∷ []) (0 ∷ []) ∷ [] ≡ 1 ∷ 1 ∷ []
 zero_alone = refl
 
 -- both decide 0: counts twice, once for each
-pub zero_together : weight_with consensus (one_decides_0 2) ((0, 0) ∷ (1, 1) ∷ []) (0 ∷ 0 ∷ []) ∷ weight_without consensus (one_decides_0 2) ((0, 0) ∷ (1, 1) ∷ []) (0 ∷ 0 ∷ []) ∷ [] ≡ 2 ∷ 0 ∷ []
+pub zero_together : weight_with consensus (one_decides_0 2) ((0, 0) ∷ (1, 1) ∷ []) (0 ∷ 0 ∷ [])
+    ∷ weight_without consensus (one_decides_0 2) ((0, 0) ∷ (1, 1) ∷ []) (0 ∷ 0 ∷ []) ∷ [] ≡ 2 ∷ 0 ∷ []
 zero_together = refl
 
 pub consensus_settled : settled consensus 2 (one_decides_0 2) ≡ true ∷ true ∷ true ∷ []
@@ -46,7 +48,8 @@ consensus_by_three = refl
 -- ---- weak symmetry breaking of three, modulo 3
 
 -- in a symmetric task vertices and edges are alike
-pub alike_edges : are_alike (symmetry_breaking 3) ((0, 0) ∷ (1, 0) ∷ []) ((1, 0) ∷ (2, 0) ∷ []) ∷ are_alike consensus ((0, 0) ∷ []) ((1, 0) ∷ []) ∷ [] ≡ true ∷ false ∷ []
+pub alike_edges : are_alike (symmetry_breaking 3) ((0, 0) ∷ (1, 0) ∷ []) ((1, 0) ∷ (2, 0) ∷ [])
+    ∷ are_alike consensus ((0, 0) ∷ []) ((1, 0) ∷ []) ∷ [] ≡ true ∷ false ∷ []
 alike_edges = refl
 
 pub breaking_settled : settled (symmetry_breaking 3) 3 three_bits ≡ true ∷ true ∷ true ∷ true ∷ true ∷ true ∷ true ∷ []
@@ -64,7 +67,8 @@ with_a_wrong_weight = each_with 0 0 1 ([] ∷ [])
     ++ each_with 6 1 1 ((0 ∷ 1 ∷ []) ∷ [])
     ++ each_with 6 2 1 ((0 ∷ 0 ∷ []) ∷ [])
 
-pub breaking_with_a_wrong_weight : settled (symmetry_breaking 3) 3 with_a_wrong_weight ≡ true ∷ true ∷ true ∷ false ∷ false ∷ false ∷ false ∷ []
+pub breaking_with_a_wrong_weight : settled (symmetry_breaking 3) 3 with_a_wrong_weight
+    ≡ true ∷ true ∷ true ∷ false ∷ false ∷ false ∷ false ∷ []
 breaking_with_a_wrong_weight = refl
 
 -- ---- two names for two processes
@@ -81,7 +85,8 @@ joined_by_the_first = refl
 
 -- The hourglass: the two triangles on the edge differ at process 0 alone, and the third touches
 -- them in a vertex.
-pub triangles_of_the_hourglass : components (rule_at (hourglass 1) 6) ≡ ((0 ∷ 2 ∷ 2 ∷ []) ∷ (1 ∷ 2 ∷ 2 ∷ []) ∷ []) ∷ ((1 ∷ 1 ∷ 1 ∷ []) ∷ []) ∷ []
+pub triangles_of_the_hourglass : components (rule_at (hourglass 1) 6)
+    ≡ ((0 ∷ 2 ∷ 2 ∷ []) ∷ (1 ∷ 2 ∷ 2 ∷ []) ∷ []) ∷ ((1 ∷ 1 ∷ 1 ∷ []) ∷ []) ∷ []
 triangles_of_the_hourglass = refl
 
 -- ---- cases
@@ -96,7 +101,8 @@ pub renaming_with_name_1 : tuples_of (in_case (rule_at renaming_2_2 0) ((1 ∷ [
 renaming_with_name_1 = refl
 
 -- the third triangle alone
-pub one_triangle : drop 5 (tuples_of (in_case (rule_at (hourglass 1) 6) ((1 ∷ 1 ∷ 1 ∷ []) ∷ []) (hourglass 1))) ≡ ((1 ∷ 1 ∷ []) ∷ []) ∷ ((1 ∷ 1 ∷ 1 ∷ []) ∷ []) ∷ []
+pub one_triangle : drop 5 (tuples_of (in_case (rule_at (hourglass 1) 6) ((1 ∷ 1 ∷ 1 ∷ []) ∷ []) (hourglass 1)))
+    ≡ ((1 ∷ 1 ∷ []) ∷ []) ∷ ((1 ∷ 1 ∷ 1 ∷ []) ∷ []) ∷ []
 one_triangle = refl
 
 -- ---- splits
@@ -104,11 +110,13 @@ one_triangle = refl
 -- where process 0 decides 1 the triangles fall apart, but at the other end of the edge they hang
 -- together
 pub stars_of_the_hourglass : map (stars (rule_at (hourglass 1) 6)) (0 ∷ 1 ∷ [])
-    ≡ (((0 ∷ 2 ∷ 2 ∷ []) ∷ []) ∷ ((1 ∷ 1 ∷ 1 ∷ []) ∷ []) ∷ ((1 ∷ 2 ∷ 2 ∷ []) ∷ []) ∷ []) ∷ (((0 ∷ 2 ∷ 2 ∷ []) ∷ (1 ∷ 2 ∷ 2 ∷ []) ∷ []) ∷ ((1 ∷ 1 ∷ 1 ∷ []) ∷ []) ∷ []) ∷ []
+    ≡ (((0 ∷ 2 ∷ 2 ∷ []) ∷ []) ∷ ((1 ∷ 1 ∷ 1 ∷ []) ∷ []) ∷ ((1 ∷ 2 ∷ 2 ∷ []) ∷ []) ∷ [])
+    ∷ (((0 ∷ 2 ∷ 2 ∷ []) ∷ (1 ∷ 2 ∷ 2 ∷ []) ∷ []) ∷ ((1 ∷ 1 ∷ 1 ∷ []) ∷ []) ∷ []) ∷ []
 stars_of_the_hourglass = refl
 
 -- tuples that agree at the place and differ at two others don't hang together
-pub apart_at_two : map (hang_together 3 0 (1 ∷ 1 ∷ 1 ∷ [])) ((1 ∷ 2 ∷ 2 ∷ []) ∷ (1 ∷ 1 ∷ 2 ∷ []) ∷ (0 ∷ 1 ∷ 1 ∷ []) ∷ []) ≡ false ∷ true ∷ false ∷ []
+pub apart_at_two : map (hang_together 3 0 (1 ∷ 1 ∷ 1 ∷ [])) ((1 ∷ 2 ∷ 2 ∷ []) ∷ (1 ∷ 1 ∷ 2 ∷ []) ∷ (0 ∷ 1 ∷ 1 ∷ []) ∷ [])
+    ≡ false ∷ true ∷ false ∷ []
 apart_at_two = refl
 
 -- the first part with a value keeps it
@@ -133,7 +141,8 @@ any_name = refl
 pub outer_two : mask_of ((0, 5) ∷ (2, 7) ∷ []) ((0, 5) ∷ (1, 6) ∷ (2, 7) ∷ []) ≡ true ∷ false ∷ true ∷ []
 outer_two = refl
 
-pub faces_by_input : map (λ face. is_part face ((0, 5) ∷ (1, 6) ∷ (2, 7) ∷ [])) (((0, 5) ∷ (2, 7) ∷ []) ∷ ((0, 5) ∷ (2, 6) ∷ []) ∷ []) ≡ true ∷ false ∷ []
+pub faces_by_input : map (λ face. is_part face ((0, 5) ∷ (1, 6) ∷ (2, 7) ∷ [])) (((0, 5) ∷ (2, 7) ∷ []) ∷ ((0, 5) ∷ (2, 6) ∷ []) ∷ [])
+    ≡ true ∷ false ∷ []
 faces_by_input = refl
 
 -- ---- covers
@@ -158,7 +167,8 @@ pub flat_moves : map (λ sheets. is_flat (square (record { first = 0; value = 1;
 flat_moves = refl
 
 -- three sheets in a circle: forth from the first to the second, and back to the third
-pub forth_and_back : move_by (record { first = 0; value = 5; second = 1; other = 6; sheets = 1 ∷ 2 ∷ 0 ∷ [] } ∷ []) 0 5 1 6 0 ∷ move_by (record { first = 0; value = 5; second = 1; other = 6; sheets = 1 ∷ 2 ∷ 0 ∷ [] } ∷ []) 1 6 0 5 0 ∷ [] ≡ 1 ∷ 2 ∷ []
+pub forth_and_back : move_by (record { first = 0; value = 5; second = 1; other = 6; sheets = 1 ∷ 2 ∷ 0 ∷ [] } ∷ []) 0 5 1 6 0
+    ∷ move_by (record { first = 0; value = 5; second = 1; other = 6; sheets = 1 ∷ 2 ∷ 0 ∷ [] } ∷ []) 1 6 0 5 0 ∷ [] ≡ 1 ∷ 2 ∷ []
 forth_and_back = refl
 
 -- the torus turns sheets round a triangle as a whole

@@ -169,14 +169,17 @@ one_zero = filter (λ tuple. (count_by (λ x. x == 0) (take 3 tuple) == 1) || sa
 
 -- alone process 1, 2 or 3 decides 0, and processes 1 and 3 without the others don't both
 abbrev pub is_left_out : List ℕ → Tuple → Bool
-is_left_out ps tuple = ((length ps == 1) && (not (has ps 0) && not (same_numbers tuple (0 ∷ [])))) || (same_numbers ps (1 ∷ 3 ∷ []) && same_numbers tuple (0 ∷ 0 ∷ []))
+is_left_out ps tuple =
+    ((length ps == 1) && (not (has ps 0) && not (same_numbers tuple (0 ∷ []))))
+    || (same_numbers ps (1 ∷ 3 ∷ []) && same_numbers tuple (0 ∷ 0 ∷ []))
 
 abbrev pub everyone : Simplex
 everyone = map (λ p. (p, 0)) (below 4)
 
 -- what the processes have of one_zero
 abbrev pub of_one_zero : Simplex → List Tuple
-of_one_zero s = filter (λ tuple. not (is_left_out (processes_of s) tuple)) (in_order (slice_cmp nat_cmp) (map (keep (mask_of s everyone)) one_zero))
+of_one_zero s =
+    filter (λ tuple. not (is_left_out (processes_of s) tuple)) (in_order (slice_cmp nat_cmp) (map (keep (mask_of s everyone)) one_zero))
 
 abbrev pub one_of_three : Task
 one_of_three = record {
@@ -189,7 +192,8 @@ one_of_three = record {
 
 -- process 3 decides the new name 2 with process 1 at 0, which decides 0 alone
 abbrev pub one_of_three_tree : Tree
-one_of_three_tree = by_split 14 (balance 2 1 (each_with 1 0 1 ([] ∷ []) ++ each_with 8 0 1 ((2 ∷ []) ∷ []) ++ each_with 8 1 1 ((0 ∷ []) ∷ [])))
+one_of_three_tree =
+    by_split 14 (balance 2 1 (each_with 1 0 1 ([] ∷ []) ++ each_with 8 0 1 ((2 ∷ []) ∷ []) ++ each_with 8 1 1 ((0 ∷ []) ∷ [])))
 
 -- ---- a torus without a triangle
 

@@ -95,4 +95,5 @@ name_beside (part ∷ more) (name ∷ names) tuple = if has_tuple part tuple the
 
 -- the values of a simplex taken apart by stars, where new names begin with this one
 abbrev pub by_stars : Rule → ℕ → Splitting
-by_stars rule new = record { rule = rule; name = λ place tuple. name_beside (stars rule place) (names_of place new [] (stars rule place)) tuple }
+by_stars rule new =
+    record { rule = rule; name = λ place tuple. name_beside (stars rule place) (names_of place new [] (stars rule place)) tuple }

@@ -54,7 +54,8 @@ position x (y ∷ ys) = if y == x then 0 else suc (position x ys)
 abbrev pub move_by : List Move → ℕ → ℕ → ℕ → ℕ → ℕ → ℕ
 move_by [] i a j b sheet = sheet
 move_by (move ∷ moves) i a j b sheet =
-    if is_move move i a j b then slice_index_or move.sheets sheet 0 else if is_move move j b i a then position sheet move.sheets else move_by moves i a j b sheet
+    if is_move move i a j b then slice_index_or move.sheets sheet 0 else if is_move move j b i a then position sheet move.sheets
+    else move_by moves i a j b sheet
 
 -- the cover of a simplex where a value on sheet 0 keeps its name, and each further sheet has its
 -- names above those of the sheet before

@@ -57,5 +57,6 @@ one_name_twice_without = refl
 
 -- two rounds later each process decides what it decides without a round: 4 is
 -- process 0's and 7 process 1's
-pub lifted_by_two_rounds : listed (path 3) 2 (lifted_by (path 3) 2 (map_by_number (path 3) 0 (4 ∷ 7 ∷ []))) ≡ 4 ∷ 7 ∷ 4 ∷ 7 ∷ 4 ∷ 7 ∷ 4 ∷ 7 ∷ 4 ∷ 7 ∷ []
+pub lifted_by_two_rounds : listed (path 3) 2 (lifted_by (path 3) 2 (map_by_number (path 3) 0 (4 ∷ 7 ∷ [])))
+    ≡ 4 ∷ 7 ∷ 4 ∷ 7 ∷ 4 ∷ 7 ∷ 4 ∷ 7 ∷ 4 ∷ 7 ∷ []
 lifted_by_two_rounds = refl

@@ -14,7 +14,8 @@ use Rattle.wf_trim.specs.Lift.{own_before, point_before, lifted, lifted_by, numb
 abbrev pub ARoundMoreKeepsThePointsBefore : Type 0
 ARoundMoreKeepsThePointsBefore = (t : Task) (rule : Rule) (ws : List Word) (w : Word)
     → is_simplex rule.input ≡ true → AllByRecursion (λ u. length u ≡ length rule.input) (ws ++ (w ∷ []))
-    → map (point_before t) (execution_points t (record { rule = rule; words = ws ++ (w ∷ []) })) ≡ execution_points t (record { rule = rule; words = ws })
+    → map (point_before t) (execution_points t (record { rule = rule; words = ws ++ (w ∷ []) }))
+    ≡ execution_points t (record { rule = rule; words = ws })
 
 -- a decision map after r rounds gives one after r + 1
 abbrev pub DecisionMapsLift : Type 0

@@ -86,7 +86,7 @@ module _ (rounds : Option ℕ) (t : Task) (old : Reading) (w : Ahead) (first : I
   whole_is : {X : Type 0} (new : Reading) (w' : Ahead) (r : reports.Report) (x : X) → CanGive new w' → w'.ended ≡ true → Reads whole_report (λ (x : X) ls. Ok r) old new w w' (Ok x)
       → (result : Result (Accepted × List ℕ) RunFault) → IsVerifiedFor rounds (IsAccepted rounds) t r result → ChecksOn rounds t old new w result
   whole_is new w' r x can end (bytes, gives, (one, count)) result verified =
-      let text : report_of 2 (w.pending ++ bytes) ≡ Ok r = ap (λ t. whole_report (lines_of (w.pending ++ t))) (sym (append-nil bytes)) ∙ one [] (λ e. refl) in
+      let text : report_of (w.pending ++ bytes) ≡ Ok r = ap (λ t. whole_report (lines_of (w.pending ++ t))) (sym (append-nil bytes)) ∙ one [] (λ e. refl) in
       (Ok r, (Ok (w.pending ++ bytes), read_whole old new w w' first bytes gives can end, text), verified)
 
   -- ---- from the report that was read to the answer

@@ -22,7 +22,7 @@ about t r faultless =
     let n = numbers t r.rounds r faultless.faultless in
     λ i. record { processes = n.processes i; rounds = r.rounds; points = n.points i; executions = n.executions i; body = r.body }
 
-pub written_as_read : (text : List ℕ) (t : Task) (r : Report) → report_of 2 text ≡ Ok r → IsFaultless t r → text ≡ text_of_report t r.rounds r.body
+pub written_as_read : (text : List ℕ) (t : Task) (r : Report) → report_of text ≡ Ok r → IsFaultless t r → text ≡ text_of_report t r.rounds r.body
 unfolding text_of_report
 written_as_read text t r read faultless = (read_written text r read).0 ∙ ap report_text (about t r faultless)
 
@@ -43,7 +43,7 @@ module _ {X : Type 0} (most : ℕ) (rounds : Option ℕ) (is_text : Task → Rep
   report_read : (text : Result (List ℕ) ReadFault) (t : Task) (r : Report) → ReadsText most reports reports' text → Judged (IsReportOf most) text (Ok r) → IsFaultless t r
       → Gave reports reports' (text_of_report t r.rounds r.body) 0
   report_read (Ok text) t r (given, gave, is) judged faultless =
-      subst (λ x. Gave reports reports' x 0) (written_as_read given t r (ap (report_of 2) (sym is.0) ∙ judged) faultless) gave
+      subst (λ x. Gave reports reports' x 0) (written_as_read given t r (ap report_of (sym is.0) ∙ judged) faultless) gave
   report_read (Err e) t r reads judged faultless = absurd (let bad : ⊥ = cc in bad)
 
   of_verified : (text : List ℕ) (t : Task) (r : Report) → GaveTask task task' t → ReadsReport most reports reports' (Ok r)

@@ -81,11 +81,11 @@ faultless_for (Some rounds) t report answer asked within clear (inr (other, is))
 text_accepted : (rounds : Option ℕ) (t : Task) (report : Report) (answer : Result (Accepted × List ℕ) RunFault) → AreAsked rounds report.rounds → IsInGrammar report → length (report_text report) ≤ most_bytes → HasComplex t report.rounds
     → report_fault t report.rounds report ≡ None → ChecksText most_bytes rounds t (report_text report) answer → Accepts (accepted_of report.body) answer
 text_accepted rounds t report answer asked grammar short within clear (Ok read, is, next) =
-    let known : report_of 2 (report_text report) ≡ Ok report = written_read report grammar in
+    let known : report_of (report_text report) ≡ Ok report = written_read report grammar in
     let same : read ≡ report = cc in
     faultless_for rounds t report answer asked within clear (subst (λ r. IsVerifiedFor rounds (IsAccepted rounds) t r answer) same next)
 text_accepted rounds t report answer asked grammar short within clear (Err (run.Cert (amiss.Syntax k)), is, next) =
-    let known : report_of 2 (report_text report) ≡ Ok report = written_read report grammar in
+    let known : report_of (report_text report) ≡ Ok report = written_read report grammar in
     absurd (let bad : ⊥ = cc in bad)
 text_accepted rounds t report answer asked grammar short within clear (Err run.TooLong, inl is, next) = absurd (omega (arith, short, is))
 text_accepted rounds t report answer asked grammar short within clear (Err run.TooLong, inr is, next) = absurd (let lines = few_lines (report_text report) in omega (arith, short, is, lines))

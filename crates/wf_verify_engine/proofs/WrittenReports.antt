@@ -19,8 +19,8 @@ use Rattle.wf_model.specs.Box.{Box, LiesIn, candidates, root, without, decided, 
 use Rattle.wf_model.specs.Refutation.{Line, remove, empty, branch, found, Tree, emptied, removed, branched, ended, Trees, no_trees, tree, lines, lines_each, Refutes, RefutesEach, IsUnsupported}
 use Rattle.wf_model.specs.Closing.{Step, Trace, Loss, same_candidate, continued, taken_out, take_out, take_out_each, places, lost_at, lost, sweep_from, sweep, unless_none, sweeps, closing_at, closing, before, in_turn, branching_at, branching, searched, search_within, canonical}
 use Rattle.wf_model.specs.LeastTree.{IsLeastTree, LeastAmong}
-use Rattle.wf_model.specs.Limits.{most_number}
-use Rattle.wf_model.specs.Report.{Body, a_map, none, least, largest, report_about}
+use Rattle.wf_model.specs.Limits.{most_number, most_value}
+use Rattle.wf_model.specs.Report.{Body, a_map, none, least, report_about}
 use Rattle.wf_model.proofs.Lemmas.{each_at, weaker, each_with_value, each_has, each_append, each_flat, each_map, each_of_map, each_filter, each_distinct, always, both, lies_in_root, Leaves, point_within, task_listed, each_execution_with, last_processes, scope_processes, inputs_within, outputs_within}
 use Rattle.wf_simplex.proofs.Lemmas.{length-within}
 use Rattle.wf_task.proofs.Lemmas.{has_from_order}
@@ -32,7 +32,7 @@ use Rattle.wf_run.specs.Run.{HasComplex}
 
 -- a value that a line may hold
 pub IsSmall : ℕ → Type 0
-IsSmall a = a ≤ largest 2
+IsSmall a = a ≤ most_value
 
 -- each candidate is such a value
 abbrev pub AreSmall : Box → Type 0
@@ -311,7 +311,7 @@ small_map (a ∷ m) [] h lies = absurd lies
 small_map (a ∷ m) (s ∷ box) h lies = (each_with_value IsSmall s a h.0 lies.0, small_map m box h.1 lies.1)
 
 -- no task has a larger value
-largest_is : (o : Option ℕ) → largest_value o ≤ largest 2
+largest_is : (o : Option ℕ) → largest_value o ≤ most_value
 largest_is None = omega arith
 largest_is (Some m) = omega arith
 

@@ -56,7 +56,8 @@ accepted_as kind.Least = Least
 -- the complex for the rounds of a header without a fault; or why each report with this header is
 -- refused
 abbrev pub IsPrepared : Task → Header → Result Built RunFault → Type 0
-IsPrepared t h (Ok b) = Builds t h.rounds (Ok b) × ((body : reports.Body) → header_fault t h.rounds (problem_of t h.rounds) (with_header h body) ≡ None)
+IsPrepared t h (Ok b) =
+    Builds t h.rounds (Ok b) × ((body : reports.Body) → header_fault t h.rounds (problem_of t h.rounds) (with_header h body) ≡ None)
 IsPrepared t h (Err e) = (body : reports.Body) → IsFaultOf t (with_header h body) e
 
 -- these rounds are asked for, or none

@@ -77,7 +77,8 @@ ChecksBoth most rounds task task' source source' result = AsksPair (ChecksSource
 -- The certificate of a source was checked against the task of another one, and what is accepted was
 -- written. A report may have so many bytes. If rounds are asked for, a report has to be for these;
 -- an obstruction is for all.
-abbrev pub VerifiesCertificate : ℕ → Option ℕ → Reading → Reading → Reading → Reading → Writing → Writing → Result Verified RunFault → Type 0
+abbrev pub VerifiesCertificate : ℕ → Option ℕ → Reading → Reading → Reading → Reading → Writing → Writing → Result Verified RunFault
+    → Type 0
 VerifiesCertificate most rounds task task' source source' sink sink' result =
     Ran (ChecksBoth most rounds task task' source source') sink sink' result
 

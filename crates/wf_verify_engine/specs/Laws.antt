@@ -27,7 +27,8 @@ VerifyingIsCounted =
 abbrev pub VerifyingCertificatesIsCounted : Type 0
 VerifyingCertificatesIsCounted =
     (most : ℕ) (rounds : Option ℕ) (task task' source source' : Reading) (sink sink' : Writing) (result : Result Verified RunFault)
-    → most_bytes ≤ most → VerifiesCertificate most rounds task task' source source' sink sink' result → IsChecked most task task' source source' sink sink' result
+    → most_bytes ≤ most → VerifiesCertificate most rounds task task' source source' sink sink' result
+    → IsChecked most task task' source source' sink sink' result
 
 -- A certificate that is accepted as a report is a report that a check accepts. So what is true of
 -- accepted reports is true of it.

@@ -28,7 +28,8 @@ most_proof_bytes = 2 ^ 62
 -- its bytes and of what is answered, and the source is at its end. If the proof is refused for a
 -- fault of its own, that holds of its bytes, of what the source has left, and of the fault. There
 -- are too many bytes if there is one more than a proof may have.
-abbrev pub IsOfBytes : {X : Type 0} → (List ℕ → X → Type 0) → (List ℕ → Option (List ℕ) → RunFault → Type 0) → List ℕ → Option (List ℕ) → Result X RunFault → Type 0
+abbrev pub IsOfBytes : {X : Type 0} → (List ℕ → X → Type 0) → (List ℕ → Option (List ℕ) → RunFault → Type 0) → List ℕ → Option (List ℕ)
+    → Result X RunFault → Type 0
 IsOfBytes accepts refuses given left (Ok x) = accepts given x × IsAtEnd left × (length given ≤ most_proof_bytes)
 IsOfBytes accepts refuses given left (Err TooLong) = length given ≡ most_proof_bytes + 1
 IsOfBytes accepts refuses given left (Err OutOfMemory) = length given ≤ most_proof_bytes + 1
@@ -36,7 +37,8 @@ IsOfBytes accepts refuses given left (Err Read) = length given ≤ most_proof_by
 IsOfBytes accepts refuses given left (Err e) = refuses given left e × (length given ≤ most_proof_bytes + 1)
 
 -- a source's bytes as a proof
-abbrev pub ReadsBytes : {X : Type 0} → (List ℕ → X → Type 0) → (List ℕ → Option (List ℕ) → RunFault → Type 0) → Reading → Reading → Result X RunFault → Type 0
+abbrev pub ReadsBytes : {X : Type 0} → (List ℕ → X → Type 0) → (List ℕ → Option (List ℕ) → RunFault → Type 0) → Reading → Reading
+    → Result X RunFault → Type 0
 ReadsBytes accepts refuses old new result =
     (given : List ℕ) × Gave old new given (by_result failed_reads result) × IsOfBytes accepts refuses given new.left result
 

@@ -33,8 +33,8 @@ IsBeyond most text = (most < length text) ⊎ (most_report_lines < length (lines
 
 -- the report of a text that may have so many bytes, or the number of its first bad line
 abbrev pub IsReportOf : ℕ → List ℕ → Result Report RunFault → Type 0
-IsReportOf most text (Ok r) = report_of 2 text ≡ Ok r
-IsReportOf most text (Err (Cert (amiss.Syntax k))) = report_of 2 text ≡ Err k
+IsReportOf most text (Ok r) = report_of text ≡ Ok r
+IsReportOf most text (Err (Cert (amiss.Syntax k))) = report_of text ≡ Err k
 IsReportOf most text (Err TooLong) = IsBeyond most text
 IsReportOf most text (Err OutOfMemory) = Unit {0}
 IsReportOf most text (Err e) = ⊥
@@ -93,7 +93,8 @@ IsVerified is_text t r (Ok answer) = IsFaultless t r × is_text t r answer.0 ans
 IsVerified is_text t r (Err e) = IsFaultOf t r e
 
 -- a report for the rounds that are asked for, if any are, is checked; one for others is refused
-abbrev pub IsVerifiedFor : {X : Type 0} → Option ℕ → (Task → Report → X → List ℕ → Type 0) → Task → Report → Result (X × List ℕ) RunFault → Type 0
+abbrev pub IsVerifiedFor : {X : Type 0} → Option ℕ → (Task → Report → X → List ℕ → Type 0) → Task → Report
+    → Result (X × List ℕ) RunFault → Type 0
 IsVerifiedFor None is_text t r result = IsVerified is_text t r result
 IsVerifiedFor (Some rounds) is_text t r result =
     ((r.rounds ≡ rounds) × IsVerified is_text t r result) ⊎ ((r.rounds ≢ rounds) × (result ≡ Err OtherRounds))
@@ -101,7 +102,8 @@ IsVerifiedFor (Some rounds) is_text t r result =
 -- the text, which may have so many bytes, is read as a report, and that is checked about the task,
 -- and for the rounds that are asked for, if any are
 abbrev pub ChecksText : ℕ → Option ℕ → Task → List ℕ → Result (Accepted × List ℕ) RunFault → Type 0
-ChecksText most rounds t text result = (r : Result Report RunFault) × IsReportOf most text r × Next (IsVerifiedFor rounds (IsAccepted rounds) t) r result
+ChecksText most rounds t text result =
+    (r : Result Report RunFault) × IsReportOf most text r × Next (IsVerifiedFor rounds (IsAccepted rounds) t) r result
 
 -- the report of a source's text, which may have so many bytes
 abbrev pub ReadsReport : ℕ → Reading → Reading → Result Report RunFault → Type 0
@@ -110,30 +112,36 @@ ReadsReport most old new result =
 
 -- a report of at most so many bytes is read, and checked about the task, and for the rounds that
 -- are asked for, if any are; is_text says which answer and text it has then
-abbrev pub ChecksReport : {X : Type 0} → ℕ → Option ℕ → (Task → Report → X → List ℕ → Type 0) → Task → Reading → Reading → Result (X × List ℕ) RunFault → Type 0
+abbrev pub ChecksReport : {X : Type 0} → ℕ → Option ℕ → (Task → Report → X → List ℕ → Type 0) → Task → Reading → Reading
+    → Result (X × List ℕ) RunFault → Type 0
 ChecksReport most rounds is_text t reports reports' result =
     (r : Result Report RunFault) × ReadsReport most reports reports' r × Next (IsVerifiedFor rounds is_text t) r result
 
 -- the report is read where there is a task, and is else left alone
-abbrev pub ChecksAfter : {X : Type 0} → ℕ → Option ℕ → (Task → Report → X → List ℕ → Type 0) → Reading → Reading → Result Task RunFault → Result (X × List ℕ) RunFault → Type 0
+abbrev pub ChecksAfter : {X : Type 0} → ℕ → Option ℕ → (Task → Report → X → List ℕ → Type 0) → Reading → Reading → Result Task RunFault
+    → Result (X × List ℕ) RunFault → Type 0
 ChecksAfter most rounds is_text reports reports' t result = NextReads (ChecksReport most rounds is_text) reports reports' t result
 
 -- the task is read, and then the report
-abbrev pub ChecksBoth : {X : Type 0} → ℕ → Option ℕ → (Task → Report → X → List ℕ → Type 0) → Reading → Reading → Reading → Reading → Result (X × List ℕ) RunFault → Type 0
+abbrev pub ChecksBoth : {X : Type 0} → ℕ → Option ℕ → (Task → Report → X → List ℕ → Type 0) → Reading → Reading → Reading → Reading
+    → Result (X × List ℕ) RunFault → Type 0
 ChecksBoth most rounds is_text task task' reports reports' result =
     AsksPair (ChecksReport most rounds is_text) task task' reports reports' result
 
 -- the same, for a report that is kept whole
-abbrev pub ChecksFor : {X : Type 0} → Option ℕ → (Task → Report → X → List ℕ → Type 0) → Reading → Reading → Result Task RunFault → Result (X × List ℕ) RunFault → Type 0
+abbrev pub ChecksFor : {X : Type 0} → Option ℕ → (Task → Report → X → List ℕ → Type 0) → Reading → Reading → Result Task RunFault
+    → Result (X × List ℕ) RunFault → Type 0
 ChecksFor rounds is_text reports reports' t result = ChecksAfter most_bytes rounds is_text reports reports' t result
 
-abbrev pub Checks : {X : Type 0} → Option ℕ → (Task → Report → X → List ℕ → Type 0) → Reading → Reading → Reading → Reading → Result (X × List ℕ) RunFault → Type 0
+abbrev pub Checks : {X : Type 0} → Option ℕ → (Task → Report → X → List ℕ → Type 0) → Reading → Reading → Reading → Reading
+    → Result (X × List ℕ) RunFault → Type 0
 Checks rounds is_text task task' reports reports' result = ChecksBoth most_bytes rounds is_text task task' reports reports' result
 
 -- The report of a source, of at most so many bytes, was checked against the task of another one,
 -- and what is accepted was written. Where rounds are asked for, the report has to be for these.
 abbrev pub Verifies : ℕ → Option ℕ → Reading → Reading → Reading → Reading → Writing → Writing → Result Accepted RunFault → Type 0
-Verifies most rounds task task' reports reports' sink sink' result = Ran (ChecksBoth most rounds (IsAccepted rounds) task task' reports reports') sink sink' result
+Verifies most rounds task task' reports reports' sink sink' result =
+    Ran (ChecksBoth most rounds (IsAccepted rounds) task task' reports reports') sink sink' result
 
 -- the same for any rounds, and what the report's map decides at each point was written
 abbrev pub Decides : Reading → Reading → Reading → Reading → Writing → Writing → Result (Unit {0}) RunFault → Type 0

@@ -56,7 +56,8 @@ judged (k ∷ ks) negative asked = refused (k ∷ ks) negative
 -- the words are taken, and these are the options that they give, with those of the subcommand that
 -- they name
 abbrev pub IsTaken : App → List Text → ArgMatches → Type 0
-IsTaken app words m = (fault_of app words ≡ []) × (rows_of (found_of m) ≡ matches_of app words) × (subcommand_rows_of m ≡ subcommand_of app words)
+IsTaken app words m =
+    (fault_of app words ≡ []) × (rows_of (found_of m) ≡ matches_of app words) × (subcommand_rows_of m ≡ subcommand_of app words)
 
 -- ---- the answer
 

@@ -48,7 +48,7 @@ returns-in_default-clause-value g c = λ next.
     let f = values_then next in
     let size = c.in-Line.size in
     let at = line_at c.args.source.now c.find.new.source c.args.window.now c.find.new.self size (subst (λ at. Finds c.args.source.now c.find.new.source c.args.window.now c.find.new.self (Ok at)) c.in-Line.is c.in_ok-found.ensures.found) in
-    let none : value_of_line 2 (take size c.find.new.self.pending ++ 10 ∷ []) ≡ None = ap (λ l. value_of_line 2 (l ++ 10 ∷ [])) (sym c.line.ensures) ∙ sym c.value_of.ensures ∙ c.in_default.is in
+    let none : value_of_line (take size c.find.new.self.pending ++ 10 ∷ []) ≡ None = ap (λ l. value_of_line (l ++ 10 ∷ [])) (sym c.line.ensures) ∙ sym c.value_of.ensures ∙ c.in_default.is in
     read_staying f (value_then next) c.args.source.now c.find.new.source c.args.window.now c.find.new.self size
     (found_reads c.args.source.now c.find.new.source c.args.window.now c.find.new.self f size (found.Line size) (subst (λ at. Finds c.args.source.now c.find.new.source c.args.window.now c.find.new.self (Ok at)) c.in-Line.is c.in_ok-found.ensures.found))
     None (other_ahead c.find.new.self size at.line next none)
@@ -62,7 +62,7 @@ returns-clause-value g c = λ next.
     let size = c.in-Line.size in
     let n = c.in-Some.value in
     let at = line_at c.args.source.now c.find.new.source c.args.window.now c.find.new.self size (subst (λ at. Finds c.args.source.now c.find.new.source c.args.window.now c.find.new.self (Ok at)) c.in-Line.is c.in_ok-found.ensures.found) in
-    let some : value_of_line 2 (take size c.find.new.self.pending ++ 10 ∷ []) ≡ Some n = ap (λ l. value_of_line 2 (l ++ 10 ∷ [])) (sym c.line.ensures) ∙ sym c.value_of.ensures ∙ c.in-Some.is in
+    let some : value_of_line (take size c.find.new.self.pending ++ 10 ∷ []) ≡ Some n = ap (λ l. value_of_line (l ++ 10 ∷ [])) (sym c.line.ensures) ∙ sym c.value_of.ensures ∙ c.in-Some.is in
     subst (λ w. Reads f (value_then next) c.args.source.now c.find.new.source c.args.window.now w (Ok (Some n))) (sym c.pass.ensures)
     (read_passing f (value_then next) c.args.source.now c.find.new.source c.args.window.now c.find.new.self size
     (found_reads c.args.source.now c.find.new.source c.args.window.now c.find.new.self f size (found.Line size) (subst (λ at. Finds c.args.source.now c.find.new.source c.args.window.now c.find.new.self (Ok at)) c.in-Line.is c.in_ok-found.ensures.found))

@@ -1,15 +1,8 @@
-use Rattle.std.proofs.Common.{IfSome, sym, subst}
-use Rattle.wf_draft.specs.Shape.{whole_of, pair_of}
-use Rattle.wf_draft.specs.Plain.{Takes}
-use Rattle.wf_draft.proofs.TokensOfValues.{takes-pair}
+use Rattle.wf_draft.proofs.TokensOfValues.{takes-digits}
 use Rattle.wf_draft.proofs.plain.Tuple2U64U64Plain.plain.Goals as goal
 
-pub returns : goal.returns
-returns c =
-    let inner = c.take_begin_array.new.self in
-    let begun = c.take_begin_array.ensures c.if-not-take_begin_array.false in
-    let one = subst (λ o. IfSome o (λ x. Takes whole_of 0 inner x c.plain.new.cursor)) c.in-Some.is c.in_ok-first.ensures in
-    let two = subst (λ o. IfSome o (λ x. Takes whole_of 0 c.plain.new.cursor x c.plain-2.new.cursor)) c.in-Some-2.is c.in_ok-second.ensures in
-    let end = c.take_end_array.ensures.taken c.if-not-take_end_array.false in
-    subst (λ ts. Takes pair_of 1 ts (c.in-Some.first, c.in-Some-2.second) c.take_end_array.new.self) (sym begun)
-    (takes-pair inner c.plain.new.cursor c.plain-2.new.cursor c.take_end_array.new.self c.in-Some.first c.in-Some-2.second one two end)
+pub returns-in-Some : goal.returns-in-Some
+returns-in-Some c =
+    let p = c.in-Some.pair in
+    let taken = c.in-Some.ensures.taken in
+    takes-digits p.0 p.1 taken.0 taken.1 c.args.cursor.now c.next_pair.new.self taken.2

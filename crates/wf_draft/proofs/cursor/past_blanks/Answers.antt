@@ -1,6 +1,6 @@
 use Rattle.std.proofs.Common.{arith, sym, ◌∙◌}
 use Rattle.wf_draft.proofs.CursorLemmas.{blank_more}
-use Rattle.wf_draft.proofs.cursor.after_blanks.Goals as goal
+use Rattle.wf_draft.proofs.cursor.past_blanks.Goals as goal
 
 pub loop-at-preserved : goal.loop-at-preserved
 loop-at-preserved c = record {

@@ -1,6 +1,6 @@
 use Rattle.std.proofs.Common.{◌≡◌, ◌≤◌, ◌-◌, length, drop}
 use Rattle.json.specs.Lex.{between, lex}
-use Rattle.wf_draft.proofs.cursor.after_blanks.Given as goal
+use Rattle.wf_draft.proofs.cursor.past_blanks.Given as goal
 
 abbrev pub invariant-loop-at : goal.invariant-loop-at
 invariant-loop-at l = record {
