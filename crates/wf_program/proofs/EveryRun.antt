@@ -22,9 +22,9 @@ use Rattle.wf_engine.specs.declared.outcome.Outcome.{Outcome}
 use Rattle.wf_engine.specs.declared.outcome.Outcome.TheVariants.{Map, Nothing}
 use Rattle.wf_engine.specs.Texts.{IsFound, IsSolved}
 use Rattle.wf_run.specs.declared.fault.RunFault.{RunFault}
-use Rattle.wf_run.specs.Texts.{IsTextOf, undecided_points}
-use Rattle.wf_run.specs.Laws.{IsCounted, IsWritten}
-use Rattle.wf_run.proofs.Lemmas.{counted, preset_counted}
+use Rattle.wf_run.specs.Texts.{IsTextOf}
+use Rattle.wf_run.specs.Laws.{IsCounted}
+use Rattle.wf_run.proofs.Lemmas.{counted}
 use Rattle.wf_verify_engine.specs.Proofs.{most_proof_bytes}
 use Rattle.wf_verify_engine.specs.Verify.{AreDecisions, most_of}
 use Rattle.wf_verify_engine.proofs.Lemmas.{certified, checked, least_most, modelled, proved, proved_by_hints}
@@ -49,7 +49,9 @@ use Rattle.wf_service.proofs.Lemmas as service
 use Rattle.wf_service.proofs.Lemmas.{calls_of_fault, has_status, none_failed, two_or_three}
 use Rattle.wf_program.specs.declared.done.Done.{Done}
 use Rattle.wf_program.specs.Program.{ChecksProofBy, DecidesTask, DoesAlone, DoesAsked, DoesWithFile, Ends, ListsQuestion, WritesTextOf, finished, searched, solved, sought, written}
-use Rattle.wf_program.specs.Laws.{IsServed, file_count, most_beside, most_read}
+use Rattle.wf_program.proofs.PresetCounts.{preset_counted}
+use Rattle.wf_program.specs.Texts.{undecided_points}
+use Rattle.wf_program.specs.Laws.{IsServed, IsWritten, file_count, most_beside, most_read}
 
 -- what is answered has status 2 at most, and nothing was written at 2
 IsAnswered : Writing → Writing → Done → Type 0

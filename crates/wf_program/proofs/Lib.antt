@@ -1,1 +1,3 @@
+pub mod PointLists
+pub mod PresetCounts
 pub mod EveryRun

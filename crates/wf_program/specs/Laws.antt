@@ -1,6 +1,8 @@
 -- What holds after every run of the program.
-use Rattle.std.specs.Prelude.{◌≡◌, ◌+◌, ◌≤◌, ◌⊎◌, ℕ, Option, Result, Ok}
+use Rattle.std.specs.Prelude.{◌≡◌, ◌≢◌, ◌+◌, ◌≤◌, ◌⊎◌, ℕ, List, Option, Result, Ok, IfErr}
 use Rattle.wf_model.specs.Limits.{most_bytes}
+use Rattle.wf_model.specs.Task.{Task}
+use Rattle.wf_preset.specs.declared.named.Preset.{Preset}
 use Rattle.wf_io.specs.Seen.{Reading, Writing}
 use Rattle.wf_verify_engine.specs.Proofs.{most_proof_bytes}
 use Rattle.wf_verify_engine.specs.Verify.{most_of}
@@ -15,8 +17,14 @@ use Rattle.wf_args.specs.declared.asked.FileJob.TheVariants as filed
 use Rattle.wf_service.specs.Files.{Filing, Opens}
 use Rattle.wf_service.specs.FileLaws.{IsFiled}
 use Rattle.wf_service.specs.Laws.{calls_by_status}
+use Rattle.wf_run.specs.declared.fault.RunFault.{RunFault}
+use Rattle.wf_run.specs.declared.fault.RunFault.TheVariants.{Write}
+use Rattle.wf_run.specs.Run.{by_result, failed_reads, failed_writes}
+use Rattle.wf_run.specs.Laws.{IsCounted}
 use Rattle.wf_program.specs.declared.done.Note.{Note}
+use Rattle.wf_program.specs.Presets.{WritesPreset}
 use Rattle.wf_program.specs.Program.{Serves, TellsNote}
+use Rattle.wf_program.specs.Texts.{Lists}
 
 -- how many files a job opens
 abbrev pub file_count : Result Job WordsFault → ℕ
@@ -53,3 +61,22 @@ ServingIsCounted {F = F} opens folder =
     → Serves opens words folder folder' source source' sink sink' errors errors' status
     → (asked : Result Job WordsFault) × IsAsked job_asked words asked
     × IsServed asked folder folder' source source' sink sink' errors errors' status
+
+-- ---- the runs that only list or write
+
+abbrev pub ListingIsCounted : Type 0
+ListingIsCounted =
+    (text_of : Task → ℕ → List ℕ) (rounds : ℕ) (source source' : Reading) (sink sink' : Writing) (result : Result (Unit {0}) RunFault)
+    → Lists text_of rounds source source' sink sink' result → IsCounted source source' sink sink' result
+
+-- A failed write is told by 31, and no failed read is told. After any other
+-- refusal the sink is as it was.
+pub record IsWritten {X : Type 0} (sink sink' : Writing) (result : Result X RunFault) : Type 0 where
+  pub reads : by_result failed_reads result ≡ 0
+  pub writes : sink'.failures ≡ sink.failures + by_result failed_writes result
+  pub unwritten : IfErr result (λ e. e ≢ Write → sink' ≡ sink)
+
+abbrev pub PresetsAreCounted : Type 0
+PresetsAreCounted =
+    (preset : Preset) (sink sink' : Writing) (result : Result (Unit {0}) RunFault)
+    → WritesPreset preset sink sink' result → IsWritten sink sink' result

@@ -12,13 +12,11 @@ use Rattle.wf_engine.specs.declared.outcome.Outcome.{Outcome}
 use Rattle.wf_engine.specs.declared.outcome.Outcome.TheVariants.{Map, Nothing}
 use Rattle.wf_run.specs.declared.fault.RunFault.{RunFault}
 use Rattle.wf_engine.specs.Texts.{Finds, Solves, SearchesInOrder}
-use Rattle.wf_run.specs.Texts.{Lists, undecided_points}
 use Rattle.wf_verify_engine.specs.Verify.{Decides, most_of}
 use Rattle.wf_verify_engine.specs.Certificates.{VerifiesCertificate}
 use Rattle.wf_verify_engine.specs.Models.{Models}
 use Rattle.wf_verify_engine.specs.Proofs.{Refutes}
 use Rattle.wf_verify_engine.specs.Hints.{RefutesByHints}
-use Rattle.wf_run.specs.Presets.{WritesPreset}
 use Rattle.wf_argument_words.specs.Listing.{executions_text}
 use Rattle.wf_report_engine.specs.Trimming.{Trims}
 use Rattle.wf_report_engine.specs.Explaining.{Explains}
@@ -53,6 +51,8 @@ use Rattle.wf_service.specs.Showing.{DeclinesAs}
 use Rattle.wf_service.specs.declared.refusal.Refusal.{Refusal}
 use Rattle.wf_service.specs.declared.refusal.Refusal.TheVariants.{Run}
 use Rattle.wf_program.specs.AccountText.{account_line}
+use Rattle.wf_program.specs.Presets.{WritesPreset}
+use Rattle.wf_program.specs.Texts.{Lists, undecided_points}
 use Rattle.wf_program.specs.declared.done.Done.{Done}
 use Rattle.wf_program.specs.declared.done.Note.{Note}
 use Rattle.wf_program.specs.declared.done.Note.TheVariants as note

@@ -1,6 +1,7 @@
-//! A law of runs of the program: what holds after each, whatever the words ask for.
+//! Laws of runs of the program: what holds after each, whatever the words ask for, and of the runs
+//! that only list or write.
 
-ghost use Rattle.wf_program.specs.Laws.{ServingIsCounted};
+ghost use Rattle.wf_program.specs.Laws.{ListingIsCounted, PresetsAreCounted, ServingIsCounted};
 
 use wf_service::{Files, Opener};
 
@@ -11,4 +12,16 @@ use wf_service::{Files, Opener};
 /// at 0 and 1 nothing is told but a note, and nothing is written at 2 and 3.
 pub fn serving_is_counted<F: Files>(_folder: &Opener<F>)
     ensures { ServingIsCounted (F.opens _folder.now.files) _folder.now }
+{}
+
+/// A listing takes at most one byte more than a text may have, tells each failed call, and writes
+/// nothing where it is refused for anything but a failed write.
+pub fn listing_is_counted()
+    ensures { ListingIsCounted }
+{}
+
+/// The writing of a preset tells a failed write, tells no failed read, and writes nothing where it
+/// is refused for anything but a failed write.
+pub fn presets_are_counted()
+    ensures { PresetsAreCounted }
 {}

@@ -3,15 +3,17 @@
 ghost use Rattle.wf_io.specs.Ends.{CanCount};
 ghost use Rattle.wf_program.specs.Program.{ListsQuestion, WritesTextOf};
 
+use crate::cnf::QuestionText;
 use crate::executions::ExecutionList;
+use crate::points::PointsInWords;
+use crate::preset::run_preset;
+use crate::views::run_views;
 use std::alloc::Global;
 use std::io::{Read, Write};
 use wf_args::TextJob;
 use wf_branches::{BranchList, BranchQuestion};
 use wf_io::{Sink, Source};
-use wf_run::{
-    PointsInWords, QuestionText, RunFault, run_in_pieces, run_over_task, run_preset, run_views,
-};
+use wf_run::{RunFault, run_in_pieces, run_over_task};
 
 /// Writes a text of the source's task, or of a preset.
 pub(crate) fn write_text<R: Read, W: Write>(

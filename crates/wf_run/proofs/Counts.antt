@@ -12,13 +12,11 @@ use Rattle.wf_model.specs.Limits.{most_bytes}
 use Rattle.wf_run.specs.declared.fault.RunFault.{RunFault}
 use Rattle.wf_run.specs.declared.fault.RunFault.TheVariants as run
 use Rattle.wf_run.specs.Faults.{of_task}
-use Rattle.wf_run.specs.Presets.{IsPreset, WritesPreset}
-use Rattle.wf_preset.specs.declared.named.Preset.{Preset}
 use Rattle.wf_run.specs.Run.{Next, Judged, IsTaskOf, IsBeyondLimits, Answers, Asks, Hands, Ran, failed_reads, failed_writes, by_result}
-use Rattle.wf_run.specs.Laws.{IsCounted, IsWritten}
+use Rattle.wf_run.specs.Laws.{IsCounted}
 
 -- a fault of a task's text counts nowhere
-quiet : (e : TaskFault) → (failed_reads (of_task e) ≡ 0) × (failed_writes (of_task e) ≡ 0)
+pub quiet : (e : TaskFault) → (failed_reads (of_task e) ≡ 0) × (failed_writes (of_task e) ≡ 0)
 quiet task.TooLong = (refl, refl)
 quiet task.OutOfMemory = (refl, refl)
 quiet e = (refl, refl)
@@ -92,16 +90,3 @@ counted is_text rounds source source' sink sink' result (answer, (t, (text, (giv
       writes = c.writes;
       unwritten = c.unwritten;
     }
-
--- a refused preset counts nowhere
-preset_quiet : (p : Preset) (answer : Result (Unit {0} × List ℕ) RunFault) → IsPreset p answer → (by_result failed_reads answer ≡ 0) × (by_result failed_writes answer ≡ 0)
-preset_quiet p (Ok answer) is = (refl, refl)
-preset_quiet p (Err run.Read) (fault, refused, is) = (ap failed_reads is ∙ (quiet fault).0, refl)
-preset_quiet p (Err run.Write) (fault, refused, is) = (refl, ap failed_writes is ∙ (quiet fault).1)
-preset_quiet p (Err e) is = (refl, refl)
-
-pub preset_counted : (p : Preset) (sink sink' : Writing) (result : Result (Unit {0}) RunFault) → WritesPreset p sink sink' result → IsWritten sink sink' result
-preset_counted p sink sink' result (answer, is, h) =
-    let none = preset_quiet p answer is in
-    let told = handed sink sink' answer result h none.1 in
-    record { reads = sym told.reads ∙ none.0; writes = told.writes; unwritten = told.unwritten }

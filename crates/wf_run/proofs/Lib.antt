@@ -1,5 +1,4 @@
 pub mod Lemmas
-pub mod PointLists
 pub mod ToldLines
 pub mod RunsInPieces
 pub mod Counts

@@ -4,30 +4,11 @@ ghost use Rattle.std.specs.Prelude.{◌≡◌, ◌++◌, ◌<◌, IfOk, OnOk, st
 ghost use Rattle.wf_model.specs.PointsText.{decision_text, point_text, points_text};
 ghost use Rattle.wf_complex.specs.Views.{view_at};
 ghost use Rattle.wf_complex.specs.Protocol.{IsProtocol};
-ghost use Rattle.wf_run.specs.Texts.{IsTextOf, undecided_points};
 
-use crate::frames::TaskAnswer;
-use crate::steps::Answered;
 use std::alloc::{AllocError, Global};
 use std::fmt::Write as _;
 use wf_complex::{Protocol, put_view};
 use wf_task::Task;
-
-/// The points of a task's protocol complex in words, a line for each: who saw what, down to the
-/// inputs.
-#[derive(Clone, Copy)]
-pub struct PointsInWords;
-
-impl TaskAnswer for PointsInWords {
-    type Answer = ();
-
-    ghost is_text = { λ words. IsTextOf undecided_points };
-
-    fn of_task(&self, alloc: Global, task: &Task, rounds: u32) -> Answered<()> {
-        let protocol = Protocol::build(alloc, task, rounds)?;
-        Ok(((), write_points(alloc, task, &protocol, &[])?))
-    }
-}
 
 /// The text that tells the points of a protocol complex, each with the value
 /// that a map has there, if any.

@@ -7,18 +7,17 @@ ghost use Rattle.wf_model.specs.Report.{line};
 ghost use Rattle.wf_model.specs.ViewsText.{views_text};
 ghost use Rattle.wf_io.specs.Ends.{CanCount};
 ghost use Rattle.wf_complex.specs.Protocol.{IsProtocol};
-ghost use Rattle.wf_run.specs.Texts.{IsTextOf, Lists};
-ghost use Rattle.wf_run.specs.Views.{header_text, appearances_text};
+ghost use Rattle.wf_run.specs.Texts.{IsTextOf};
+ghost use Rattle.wf_program.specs.Texts.{Lists};
+ghost use Rattle.wf_program.specs.Views.{header_text, appearances_text};
 
-use crate::fault::RunFault;
-use crate::frames::{TaskAnswer, run_over_task};
-use crate::steps::Answered;
 use std::alloc::{AllocError, Global};
 use std::fmt::Write as _;
 use std::io::{Read, Write};
 use wf_complex::Protocol;
 use wf_io::{Sink, Source};
 use wf_lines::{put_number, put_words};
+use wf_run::{Answered, RunFault, TaskAnswer, run_over_task};
 use wf_task::Task;
 
 /// Reads a task to the reader's end and writes the list of the points of its protocol complex after

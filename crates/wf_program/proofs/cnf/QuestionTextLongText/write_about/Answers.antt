@@ -1,8 +1,8 @@
 use Rattle.std.proofs.Common.{ap, ◌∙◌}
 use Rattle.wf_formula.specs.Dimacs.{question_text}
 use Rattle.wf_run.specs.Run.{HasComplex}
-use Rattle.wf_run.proofs.RunsInPieces.{beyond_build, broken, refused, written}
-use Rattle.wf_run.proofs.cnf.QuestionTextLongText.write_about.Goals as goal
+use Rattle.wf_run.proofs.Lemmas.{beyond_build, broken, refused, written}
+use Rattle.wf_program.proofs.cnf.QuestionTextLongText.write_about.Goals as goal
 
 pub returns-in_err-protocol : goal.returns-in_err-protocol
 returns-in_err-protocol g c =

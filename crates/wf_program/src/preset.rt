@@ -4,14 +4,13 @@ ghost use Rattle.std.specs.Prelude.{◌≡◌, ◌++◌, ◌∷◌, [], IfOk};
 ghost use Rattle.wf_io.specs.Ends.{CanWrite};
 ghost use Rattle.wf_task.specs.Canonical.{canonical_text};
 ghost use Rattle.wf_run.specs.Run.{answered};
-ghost use Rattle.wf_run.specs.Presets.{IsPreset, WritesPreset};
+ghost use Rattle.wf_program.specs.Presets.{IsPreset, WritesPreset};
 
-use crate::fault::RunFault;
-use crate::steps::{Answered, hand_out};
 use std::alloc::{AllocError, Global};
 use std::io::Write;
 use wf_io::Sink;
 use wf_preset::Preset;
+use wf_run::{Answered, RunFault, hand_out};
 use wf_task::Task;
 
 /// Writes the canonical text of a preset's task and a line feed, or refuses the preset as

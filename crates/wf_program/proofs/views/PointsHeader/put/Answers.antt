@@ -1,7 +1,7 @@
 use Rattle.std.proofs.Common.{◌++◌, [], ◌∷◌, string_bytes, codes}
 use Rattle.wf_model.specs.Report.{line}
 use Rattle.wf_complex.proofs.Lemmas.{and_more}
-use Rattle.wf_run.proofs.views.PointsHeader.put.Goals as goal
+use Rattle.wf_program.proofs.views.PointsHeader.put.Goals as goal
 
 pub returns : goal.returns
 returns c =

@@ -9,8 +9,8 @@ use Rattle.wf_model.specs.Report.{line}
 use Rattle.wf_model.specs.ViewsText.{point_line, views_text}
 use Rattle.wf_model.proofs.Lemmas.{appearances_points}
 use Rattle.wf_complex.specs.Protocol.{Built, IsProtocol}
-use Rattle.wf_run.specs.Views.{header_text, appearances_text}
-use Rattle.wf_run.specs.declared.views.PointsHeader.{PointsHeader}
+use Rattle.wf_program.specs.Views.{header_text, appearances_text}
+use Rattle.wf_program.specs.declared.views.PointsHeader.{PointsHeader}
 
 abbrev pub place_of : Appearance → ℕ × ℕ
 place_of a = (a.execution, a.process)

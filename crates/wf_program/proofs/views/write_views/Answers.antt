@@ -1,9 +1,9 @@
 use Rattle.std.proofs.Common.{◌++◌, [], ap, ◌∙◌, string_bytes, codes, vec_items}
 use Rattle.wf_model.specs.Report.{line}
-use Rattle.wf_run.specs.Views.{header_text, appearances_text}
+use Rattle.wf_program.specs.Views.{header_text, appearances_text}
 use Rattle.wf_complex.proofs.Lemmas.{and_more}
-use Rattle.wf_run.proofs.PointLists.{as_many, views_split}
-use Rattle.wf_run.proofs.views.write_views.Goals as goal
+use Rattle.wf_program.proofs.PointLists.{as_many, views_split}
+use Rattle.wf_program.proofs.views.write_views.Goals as goal
 
 pub put_points-requires : goal.put_points-requires
 put_points-requires c = as_many c.args.task.now c.args.protocol.now.rounds c.args.protocol.now c.requires

@@ -1,6 +1,6 @@
 use Rattle.std.proofs.Common.{◌≡◌, ◌++◌, drop, string_bytes}
-use Rattle.wf_run.specs.Views.{appearances_text}
-use Rattle.wf_run.proofs.views.put_points.Given as goal
+use Rattle.wf_program.specs.Views.{appearances_text}
+use Rattle.wf_program.proofs.views.put_points.Given as goal
 
 abbrev pub invariant-loop-point : goal.invariant-loop-point
 invariant-loop-point l =

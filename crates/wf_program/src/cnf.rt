@@ -4,13 +4,12 @@ ghost use Rattle.wf_formula.specs.Dimacs.{question_text};
 ghost use Rattle.wf_run.specs.Run.{Answers};
 ghost use Rattle.wf_run.specs.Texts.{IsTextOf};
 
-use crate::frames::LongText;
-use crate::steps::Written;
 use std::alloc::Global;
 use std::io::Write;
 use wf_cnf::Question;
 use wf_complex::Protocol;
 use wf_io::Sink;
+use wf_run::{LongText, Written};
 use wf_task::Task;
 
 /// The question whether a task has a decision map after so many rounds, as a formula in conjunctive

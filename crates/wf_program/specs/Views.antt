@@ -1,7 +1,7 @@
 -- The parts of the text that lists the points.
 use Rattle.std.specs.Prelude.{ℕ, ◌+◌, List, [], ◌∷◌, ◌++◌, codes}
 use Rattle.wf_model.specs.Report.{line}
-use Rattle.wf_run.specs.declared.views.PointsHeader.{PointsHeader}
+use Rattle.wf_program.specs.declared.views.PointsHeader.{PointsHeader}
 
 abbrev pub header_text : PointsHeader → List ℕ
 header_text h =

@@ -1,6 +1,6 @@
 use Rattle.std.proofs.Common.{string_bytes}
-use Rattle.wf_run.proofs.PointLists.{next_point}
-use Rattle.wf_run.proofs.views.put_points.Goals as goal
+use Rattle.wf_program.proofs.PointLists.{next_point}
+use Rattle.wf_program.proofs.views.put_points.Goals as goal
 
 pub loop-point-preserved : goal.loop-point-preserved
 loop-point-preserved c =
