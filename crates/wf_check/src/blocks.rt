@@ -1,8 +1,8 @@
 //! The box that the lines are about, and the way back to the boxes that are still to come.
 //!
 //! There is one box, a set of candidates for each point. A trail has what the open blocks took out
-//! of it, and for each open block the values whose blocks are still to come. So the memory that a
-//! certificate can ask for grows with its lines and with the points, and not with their product.
+//! of it, and for each open block the values whose blocks are still to come. So the candidates of
+//! the points bound the memory that a certificate can ask for, however many lines it has.
 
 ghost use Rattle.std.specs.Prelude.{◌≡◌, ◌==◌, ◌<◌, ◌++◌, ◌∷◌, [], true, nat_lt, length, map, IfOk, OnOk};
 ghost use Rattle.std.specs.List.{slice_set};

@@ -7,8 +7,8 @@
 //!   takes lines one by one and keeps none, by [`LineRules`], for a [`Goal`].
 //! - [`judge_body`]: what is found of the body of a report while a source gives it, by a [`Judge`].
 //!
-//! It stands on reports, tasks, protocol complexes and sets of values alone: what it accepts rests
-//! on nothing of the search.
+//! It stands on tasks, protocol complexes, sets of values, reports and their sources: what it
+//! accepts rests on nothing of the search.
 #![tactic(auto)]
 
 mod blocks;

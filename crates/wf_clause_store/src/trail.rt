@@ -87,8 +87,9 @@ impl Trail {
         ensures sound { IsTrue result → MakesTrue self.now literal }
         ensures exact { result ≡ has self.now literal }
     {
+        let marks = self.marks.as_slice();
         let at = literal as usize;
-        at < self.marks.len() && self.marks[at]
+        at < marks.len() && marks[at]
     }
 
     /// Whether the literal is false.

@@ -9,7 +9,8 @@
 //! - [`found_obstructions_are_true`], [`seeking_is_counted`]: laws.
 //!
 //! What is written was read again and judged, as `verify` does it. So nobody has to trust the
-//! finder. That the finder finds an obstruction if there is one is tested, and not proved.
+//! finder. How often the finder finds an obstruction is tested, and not proved: its moduli, nodes
+//! and steps have limits.
 #![tactic(auto)]
 
 mod finding;

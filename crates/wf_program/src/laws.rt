@@ -8,7 +8,7 @@ use wf_service::{Files, Opener};
 /// The status is at most 4, and 4 exactly where one call of the source, the sink,
 /// the folder or the file that it opened failed. A file is opened where the words
 /// name one, and no other is; at most one byte more than a text may have is taken
-/// of the source, and of the file, where proofs and parts may have more than other texts;
+/// of the source, and of the file, where proofs, parts and long reports may have more than others;
 /// at 0 and 1 nothing is told but a note, and nothing is written at 2 and 3.
 pub fn serving_is_counted<F: Files>(_folder: &Opener<F>)
     ensures { ServingIsCounted (F.opens _folder.now.files) _folder.now }

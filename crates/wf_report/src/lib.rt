@@ -16,8 +16,8 @@
 //! - [`read_values`], [`next_step`]: the values of a map, and the lines of a search one by one.
 //! - [`skim_body`], [`skim_steps`]: the lines up to the end are read, and nothing is found of them.
 //!
-//! The laws say that the text of a report is read as that report, and that
-//! what is read as a report is its text.
+//! The laws say that the text of a report in the grammar is read as that report, and that what is
+//! read as a report is its text.
 #![tactic(auto)]
 
 mod bytes;

@@ -62,8 +62,11 @@ fn visit_watchers(
 {
     let mut list = watches.take(alloc, falsified);
     let mut kept = 0;
+    let mut seen = 0;
+    let mut fails = false;
     for at in 0..list.len() {
         let Watcher { place, blocker } = list[at];
+        seen = at + 1;
         if trail.is_true(blocker) {
             list[kept] = Watcher { place, blocker };
             kept += 1;
@@ -77,16 +80,17 @@ fn visit_watchers(
                 list[kept] = Watcher { place, blocker };
             }
             WatchOutcome::Fails => {
-                close_gap(&mut list, kept, at);
-                watches.give(falsified, list);
-                return Ok(true);
+                list[kept] = Watcher { place, blocker };
+                kept += 1;
+                fails = true;
+                break;
             }
         }
         kept += 1;
     }
-    list.truncate(kept);
+    close_gap(&mut list, kept, seen);
     watches.give(falsified, list);
-    Ok(false)
+    Ok(fails)
 }
 
 /// Moves all from one place on to an earlier one.
@@ -144,10 +148,8 @@ fn visit(
 #[inline]
 fn other_watched(place: u32, falsified: Code, clauses: &Catalogue) -> Option<Code> {
     let (first, second) = clauses.watched_at(place)?;
-    if first == falsified {
-        Some(second)
-    } else if second == falsified {
-        Some(first)
+    if first == falsified || second == falsified {
+        Some(first ^ second ^ falsified)
     } else {
         None
     }

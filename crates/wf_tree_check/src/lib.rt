@@ -6,7 +6,7 @@
 //!   checker. [`MOST_NODES`], [`MOST_LEVELS`]: how many nodes, and how many above one another.
 //!
 //! `specs/Judge` says which fault is the first. The laws say that nodes without a fault are those
-//! of an obstruction, and that nodes with a fault are those of none.
+//! of an obstruction, and that nodes with a fault, unless it is a limit, are those of none.
 #![tactic(auto)]
 
 mod enter;

@@ -5,8 +5,8 @@
 //! - [`is_obstruction_text`]: whether the first line of a text is [`FIRST_LINE`].
 //! - [`line_of`]: the line of a node, of a move or of a multiplier.
 //!
-//! The laws say that the text of an obstruction is read as that obstruction, and that what is read
-//! as an obstruction is its text.
+//! The laws say that the text of an obstruction in the grammar is read as that obstruction, and
+//! that what is read as an obstruction is its text.
 #![tactic(auto)]
 
 mod front;

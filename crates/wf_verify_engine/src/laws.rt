@@ -49,15 +49,15 @@ pub fn accepted_reports_are_verified()
     ensures { AcceptedReportsAreVerified }
 {}
 
-/// A check takes at most one byte more than a text may have of each of its two sources, tells each
-/// failed call, and writes nothing where it is refused for anything but a failed write.
+/// A check takes at most one byte more than a task or a report may have of its two sources, tells
+/// each failed call, and writes nothing if it is refused for anything but a failed write.
 pub fn verifying_is_counted()
     ensures { VerifyingIsCounted }
 {}
 
-/// A check of a certificate takes at most one byte more than a text may have of each of its two
-/// sources, tells each failed call, and writes nothing if it is refused for anything but a failed
-/// write.
+/// A check of a certificate takes at most one byte more than a task or a certificate may have of
+/// its two sources, tells each failed call, and writes nothing if it is refused for anything but a
+/// failed write.
 pub fn verifying_certificates_is_counted()
     ensures { VerifyingCertificatesIsCounted }
 {}
