@@ -34,13 +34,13 @@ def told_by_wfverify(told):
     return other + told.removeprefix(own) if told.startswith(own) else told
 
 
-def compare(words, given, ran, seconds):
+def compare(words, given, ran, seconds, memory=None):
     """Has wfverify do what a run of wfcheck did, if that is its to do, and compares all that both write, tell and answer."""
     own, program = words_of(words), common.program().with_name("wfverify")
     if own is None or not program.is_file():
         return
     Shown.many += 1
-    other = running.run([program, *own], given, seconds)
+    other = running.run([program, *own], given, seconds, memory)
     if (other.returncode, other.stdout, other.stderr) != (ran.returncode, ran.stdout, told_by_wfverify(ran.stderr)):
         raise Otherwise(f"wfverify: status {other.returncode}, {other.stdout[:80]}, {other.stderr[:80]}; "
                         f"wfcheck: status {ran.returncode}, {ran.stdout[:80]}, {ran.stderr[:80]}")

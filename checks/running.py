@@ -5,6 +5,7 @@ the same three files in memory, so a script runs one program at a time. A progra
 
 On a machine with other work a program may wait longer than it runs. So it has its seconds of a processor, and for each of its workers
 again as many, and is ended before that only where it waits PATIENCE times as long."""
+import contextlib
 import os
 import resource
 import select
@@ -31,8 +32,16 @@ def folder():
     return tempfile.TemporaryDirectory(dir=IN_MEMORY if os.access(IN_MEMORY, os.W_OK) else None)
 
 
-def run(words, given, seconds):
-    """What a program writes, tells and answers. If it doesn't end in so many seconds, it is ended, and subprocess.TimeoutExpired raised."""
+def limit_memory(child, most):
+    """A program that was just started may take so many bytes. A limit of this script, which the program inherited, would hold for the
+    oracles too."""
+    with contextlib.suppress(ProcessLookupError):  # it has ended
+        resource.prlimit(child, resource.RLIMIT_AS, (most, most))
+
+
+def run(words, given, seconds, memory=None):
+    """What a program writes, tells and answers, which may take so many bytes of memory. If it doesn't end in so many seconds, it is ended,
+    and subprocess.TimeoutExpired raised."""
     for stream in STREAMS:
         os.ftruncate(stream, 0)
         os.lseek(stream, 0, os.SEEK_SET)
@@ -40,6 +49,8 @@ def run(words, given, seconds):
     child = os.posix_spawn(words[0], words, ENVIRONMENT, file_actions=ACTIONS, setsigdef=SIGNALS)
     has_ended = False
     try:
+        if memory:
+            limit_memory(child, memory)
         has_ended = ends(child, seconds, workers_in(words))
     finally:
         if not has_ended:
