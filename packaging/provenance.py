@@ -128,5 +128,6 @@ def time():
     """The time of all files that are handed out: SOURCE_DATE_EPOCH, or that of the commit."""
     told_time = os.environ.get("SOURCE_DATE_EPOCH") or git("log", "-1", "--format=%ct")
     if not told_time or not told_time.isdigit():
-        raise layout.Mistake("the files need a time: SOURCE_DATE_EPOCH in seconds, or a clone of the repository")
+        why = "git knows none of this folder: go to a clone" if shutil.which("git") else "there is no git on the path: install it"
+        raise layout.Mistake(f"the files get the time of the commit, and {why}, or give a time, as in `make deb dist SOURCE_DATE_EPOCH=$(date +%s)`")
     return int(told_time)
