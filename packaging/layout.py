@@ -1,5 +1,5 @@
-"""What is installed, and where: the commands, their pages, completions, the gallery, the examples, the schema and the Python module. The
-installation, the archive and the Debian package all have these files.
+"""What is installed, and where: the commands, their man pages, completions, the documents, the gallery, the examples and the Python module.
+The installation, the archive and the Debian package all have these files.
 
 `Mistake` is what can't be done, in a line for whoever called."""
 import hashlib
@@ -23,8 +23,12 @@ COMPLETIONS = {
     "wfcheck.bash": "share/bash-completion/completions/wfcheck", "_wfcheck": "share/zsh/site-functions/_wfcheck",
     "wfcheck.fish": "share/fish/vendor_completions.d/wfcheck.fish",
 }
-# whole folders and files below SHARE
-SHARED = ["gallery", "examples", "python/wfcheck", "python/pyproject.toml", "python/backend.py", "python/README.md", "docs/task.schema.json", "LICENSE"]
+# whole folders and files below SHARE, which stand there as in the repository, so that links between them lead somewhere
+SHARED = [
+    "README.md", "CHANGELOG.md", "CITATION.cff", "LICENSE", "tools/README.md",
+    *sorted(str(it.relative_to(ROOT)) for it in (ROOT / "docs").glob("*.md")), "docs/pictures", "docs/task.schema.json",
+    "gallery", "examples", "python/wfcheck", "python/pyproject.toml", "python/backend.py", "python/README.md",
+]
 LEFT_OUT = {"__pycache__"}
 SHA = re.compile(r"^([0-9a-f]{64}) [ *](\S+)$", re.M)
 EXECUTABLE, PLAIN = 0o755, 0o644
@@ -145,8 +149,7 @@ def files(binaries, provenance):
     for name, place in COMPLETIONS.items():
         found[place] = File((ROOT / "docs/completions" / name).read_bytes())
     for path in [file for it in SHARED for file in below(ROOT / it) if file.exists()]:
-        place = path.relative_to(ROOT)
-        found[f"{SHARE}/{place.name if place.parts[0] == 'docs' else place}"] = File(path.read_bytes())
+        found[f"{SHARE}/{path.relative_to(ROOT)}"] = File(path.read_bytes())
     if provenance:
         found[f"{SHARE}/{PROVENANCE}"] = File(provenance.encode())
     return dict(sorted(found.items()))
