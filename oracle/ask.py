@@ -33,6 +33,7 @@ HERE = pathlib.Path(__file__).resolve().parent
 SOLVERS = {"cadical": "cadical -q --no-binary {formula} {proof}", "kissat": "kissat -q --no-binary {formula} {proof}",
            "cryptominisat5": "cryptominisat5 --verb 0 {formula}", "minisat": "minisat -verb=0 {formula} {output}"}
 SAYS = re.compile(rb"^(?:s )?(UN)?SAT(?:ISFIABLE)?\s*$", re.M)
+NO_SOLVER = "no SAT solver is on the path (Debian has the packages cadical, cryptominisat and minisat): an obstruction alone is looked for"
 STATUS = {"map": 0, "none": 1, None: 3}
 
 
@@ -176,7 +177,7 @@ def main():
     except task_file.Refused as refused:
         words.error(f"the task is refused, {refused.line}: {refused.words}")
     if not solver:
-        print("no SAT solver is on the path: an obstruction alone is looked for", file=sys.stderr)
+        print(NO_SOLVER, file=sys.stderr)
     with tempfile.TemporaryDirectory() as folder:
         run_of = Run(asked, solver, pathlib.Path(folder))
         run_of.task.write_bytes(text)

@@ -56,9 +56,9 @@ def main():
         with open(asked.task, "rb") as file:
             sys.stdout.write(text(task_file.read(file.read())[0], asked.rounds))
     except OSError as error:
-        sys.exit(f"formula.py: {error}")
+        words.error(str(error))
     except task_file.Refused as refused:
-        sys.exit(f"the task is refused, {refused.line}: {refused.words}")
+        words.error(f"the task is refused, {refused.line}: {refused.words}")
 
 
 if __name__ == "__main__":

@@ -138,7 +138,11 @@ def main():
     script.add_argument("rounds", type=int, metavar="ROUNDS")
     asked = script.parse_args()
     try:
-        sys.stdout.write(report(task_file.read(asked.task.read_bytes())[0], asked.rounds, sys.stdin.buffer.read()))
+        task = asked.task.read_bytes()
+    except OSError as error:
+        script.error(str(error))
+    try:
+        sys.stdout.write(report(task_file.read(task)[0], asked.rounds, sys.stdin.buffer.read()))
     except (plain.Refused, task_file.Refused) as refused:
         sys.stderr.write(refusals.told(str(getattr(refused, "line", refused)), is_filed=True))
         return 2

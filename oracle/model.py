@@ -66,7 +66,10 @@ def main():
     script.add_argument("task", type=pathlib.Path, metavar="TASK")
     script.add_argument("rounds", type=int, metavar="ROUNDS")
     asked = script.parse_args()
-    task, rounds = json.loads(asked.task.read_text()), asked.rounds
+    try:
+        task, rounds = json.loads(asked.task.read_text()), asked.rounds
+    except (OSError, ValueError) as error:
+        script.error(f"{asked.task} is no task that can be read: {error}")
     try:
         print(report(task, second_opinion.Complex(task, rounds), rounds, sys.stdin.buffer.read()), end="")
     except Refused as refused:

@@ -181,7 +181,11 @@ def main():
     script.add_argument("task", type=pathlib.Path, metavar="TASK")
     script.add_argument("--rounds", type=int, metavar="R", help="the rounds that the report has to be about")
     asked = script.parse_args()
-    written, told, status = judged(asked.task.read_bytes(), sys.stdin.buffer.read(), asked.rounds)
+    try:
+        task = asked.task.read_bytes()
+    except OSError as error:
+        script.error(str(error))
+    written, told, status = judged(task, sys.stdin.buffer.read(), asked.rounds)
     sys.stdout.write(written.decode())
     sys.stderr.write(told.decode())
     return status

@@ -73,7 +73,7 @@ def of_other_rounds(file, rounds):
 def main():
     words = argparse.ArgumentParser(prog="review.py", description=__doc__, formatter_class=argparse.RawDescriptionHelpFormatter)
     words.add_argument("folder", type=pathlib.Path, metavar="FOLDER")
-    words.add_argument("tasks", type=pathlib.Path, nargs="*", metavar="TASK.json")
+    words.add_argument("tasks", type=pathlib.Path, nargs="*", default=[], metavar="TASK.json")
     asked = words.parse_args()
     if not asked.folder.is_dir():
         words.error(f"{asked.folder} is no folder")

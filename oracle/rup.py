@@ -177,7 +177,10 @@ def main(name, told, judged):
     script.add_argument("rounds", type=int, metavar="ROUNDS")
     script.add_argument("--branch", type=int, metavar="I")
     asked = script.parse_args()
-    task = json.loads(asked.task.read_bytes())
+    try:
+        task = json.loads(asked.task.read_bytes())
+    except (OSError, ValueError) as error:
+        script.error(f"{asked.task} is no task that can be read: {error}")
     variables, clauses = question(task, asked.rounds, asked.branch)
     refusal = judged(clauses, variables, sys.stdin.buffer.read())
     sys.stdout.write(f"wfcheck: {refusal}\n" if refusal else accepted(asked.rounds, place(task, asked.rounds, asked.branch)))

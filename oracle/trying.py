@@ -51,9 +51,9 @@ def main():
         with open(asked.task, "rb") as file:
             task, rules = task_file.read(file.read())
     except OSError as error:
-        sys.exit(f"trying.py: {error}")
+        words.error(str(error))
     except task_file.Refused as refused:
-        sys.exit(f"the task is refused, {refused.line}: {refused.words}")
+        words.error(f"the task is refused, {refused.line}: {refused.words}")
     tried = Trying(task, asked.rounds)
     print("map" if tried.map(rules, sorted(tried.made.values)) else "none")
 

@@ -117,7 +117,7 @@ def main():
     except OSError as error:
         words.error(str(error))
     except task_file.Refused as refused:
-        words.error(f"the task is refused, {refused.line}: {refused.words}")
+        words.error(f"the task is refused{', ' * bool(refused.line)}{refused.line}: {refused.words}")
     return 0
 
 
