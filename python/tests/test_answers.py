@@ -145,7 +145,8 @@ class Answers(Case):
                 (20, wfcheck.verify, (known("consensus-2"), "nothing"))]:
             self.refused(number, call, *given)
         error = self.refused(3, wfcheck.solve, broken, 1)
-        self.assertEqual((error.words, str(error)), ("Shape version 0", "3 Shape version 0"))
+        self.assertEqual(error.words, "Shape version 0")
+        self.assertRegex(str(error), "^3 Shape version 0 [(].*`tools/lint.py FILE` says in words why a file is no task[)]$")
 
     def test_a_negative_number_of_rounds(self):
         for call in wfcheck.solve, wfcheck.points:

@@ -30,7 +30,7 @@ class WithoutProgram(Case):
             doors = [[ROOT / "tools/lint.py"], ["-m", "wfcheck", "lint"], ["-c", DOOR.format("lint")]]
             ends = [self.python(*door, file) for door in doors]
             self.assertEqual([it[0] for it in ends], [status] * 3)
-            self.assertEqual(len({re.sub("^.*: (?=\\[Errno)", "", it[1]) for it in ends}), 1, ends)
+            self.assertEqual(len({re.sub("^.*: (?=nowhere.json can't be read)", "", it[1]) for it in ends}), 1, ends)
 
     def test_task_writes_here_and_over_nothing(self):
         door = ["-c", DOOR.format("task")]

@@ -117,7 +117,7 @@ def main(listed: List[str], name: str) -> int:
             text = file.read(LONGEST + 1)
         value, rules = read(text)
     except OSError as error:
-        print(f"{name}: {error}", file=sys.stderr)
+        print(f"{name}: {asked.task} can't be read: {error.strerror}", file=sys.stderr)
         return 2
     except Refused as refused:
         print(f"refused, {refused.line}: {refused.words}")

@@ -19,7 +19,8 @@ SHA = re.compile(r"^([0-9a-f]{64}) [ *](\S+)$", re.M)
 # in seconds: how long a program may take to say which one it is
 SECONDS = 10
 TO_DO = f"set {VARIABLE} to the file of the program, put {NAME} on the path, or get a clone, where release/ has it and `make build` makes it"
-REFUSAL = re.compile(r"^wfcheck: (\d+) (.*)$", re.M)
+# a refusal with the notes below it
+REFUSAL = re.compile(r"^wfcheck: (\d+) (.*)((?:\n  note: .*)*)", re.M)
 # the statuses of an answer: a map or an acceptance, and none
 ANSWERS = (0, 1)
 Word = Union[str, int, pathlib.Path]
@@ -38,14 +39,14 @@ class NoFile(Error, OSError):
 
 
 class Refused(Error):
-    """What the program refuses, by the number of the refusal and its words, as docs/FORMAT.md lists them."""
+    """What the program refuses, by the number of the refusal and its words, as docs/FORMAT.md lists them. `str` has the program's notes too."""
 
-    def __init__(self, number: int, words: str) -> None:
-        super().__init__(number, words)
-        self.number, self.words = number, words
+    def __init__(self, number: int, words: str, notes: Sequence[str] = ()) -> None:
+        super().__init__(number, words, notes)
+        self.number, self.words, self.notes = number, words, notes
 
     def __str__(self) -> str:
-        return f"{self.number} {self.words}"
+        return f"{self.number} {self.words}" + "".join(f" ({it})" for it in self.notes)
 
 
 class NoAnswer(Error):
@@ -136,4 +137,7 @@ def run(words: Sequence[Word], given: str, seconds: Optional[float] = None) -> R
 def refusal(said: str) -> Optional[Refused]:
     """The refusal that a text tells of, or None."""
     found = REFUSAL.search(said)
-    return Refused(int(found[1]), found[2]) if found else None
+    if not found:
+        return None
+    notes = found[3].replace(f"`{NAME}-lint ", f"`{linter()} ").split("\n  note: ")[1:]
+    return Refused(int(found[1]), found[2], notes)

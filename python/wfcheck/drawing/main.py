@@ -50,10 +50,15 @@ def number(text: str) -> int:
     return int(text)
 
 
+def called() -> str:
+    """The name under which the command was called."""
+    name = pathlib.Path(sys.argv[0]).name
+    return name if name == INSTALLED else "draw"
+
+
 def words(prog: str = "") -> argparse.ArgumentParser:
     """The command line of a command of this name."""
-    name = pathlib.Path(sys.argv[0]).name
-    prog = prog or (name if name == INSTALLED else "python3 -m wfcheck draw")
+    prog = prog or (INSTALLED if called() == INSTALLED else "python3 -m wfcheck draw")
     found = argparse.ArgumentParser(prog=prog, description=ABOUT, allow_abbrev=False)
     found.add_argument("task", metavar="TASK", help="the file of a task")
     found.add_argument("report", metavar="REPORT", nargs="?", help="a report or an obstruction that `wfcheck` wrote")
@@ -81,7 +86,10 @@ def picture(task: Task, text: Optional[str], asked: argparse.Namespace) -> Pictu
     """The picture of a task, or of a report or an obstruction, once the program accepted it. Raises Error, TooLarge and Stopped."""
     choice = Choice(asked.input, asked.faces, asked.all)
     if text is None:
-        run(["views", "--rounds", 0], task.text)
+        try:
+            run(["views", "--rounds", 0], task.text)
+        except Refused as refused:
+            raise Stopped(f"wfcheck refuses {asked.task}: {refused}") from refused
         if asked.outputs:
             return outputs(task, asked.input)
         if asked.rounds is None:
@@ -167,10 +175,10 @@ def main(listed: Optional[List[str]] = None) -> int:
         found = picture(task, text, asked)
         keep(page.page(found.scene, found.side()) if asked.html else svg(found.scene), asked.output)
     except (Error, Stopped, TooLarge, Unreadable) as why:
-        print(f"draw: {why}", file=sys.stderr)
+        print(f"{called()}: {why}", file=sys.stderr)
         return REFUSED
     except OSError as why:
-        print(f"draw: {why.filename if why.filename else 'writing'}: {why.strerror}", file=sys.stderr)
+        print(f"{called()}: {why.filename if why.filename else 'writing'}: {why.strerror}", file=sys.stderr)
         return REFUSED
     return 0
 
