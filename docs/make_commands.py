@@ -48,8 +48,8 @@ HEAD = """<!-- made by docs/make_commands.py: change that script or the program'
 # Commands
 
 Each command but `preset` reads standard input, and all write standard output. [FORMAT.md](FORMAT.md) describes the
-texts, and [ANSWERS.md](ANSWERS.md) says what they mean. The examples run at the top of the repository, with `bin/` on
-the path; `map.txt` is what the first wrote.
+texts, and [ANSWERS.md](ANSWERS.md) says what they mean. The examples run at the top of the repository, with `bin/` or
+`release/` on the path; `map.txt` is what the first wrote.
 
 """
 SHARED = """
