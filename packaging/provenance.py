@@ -124,10 +124,18 @@ def chosen(say=print):
     return built()
 
 
+def why_no_commit():
+    """Why git names no commit here, in words."""
+    try:
+        run = subprocess.run(["git", "-C", str(layout.ROOT), "rev-parse", "HEAD"], capture_output=True, text=True, check=False)
+    except OSError:
+        return "there is no git on the path"
+    return f"git says: {run.stderr.strip().partition(chr(10))[0]}"
+
+
 def time():
     """The time of all files that are handed out: SOURCE_DATE_EPOCH, or that of the commit."""
     told_time = os.environ.get("SOURCE_DATE_EPOCH") or git("log", "-1", "--format=%ct")
     if not told_time or not told_time.isdigit():
-        why = "git knows none of this folder: go to a clone" if shutil.which("git") else "there is no git on the path: install it"
-        raise layout.Mistake(f"the files get the time of the commit, and {why}, or give a time, as in `make deb dist SOURCE_DATE_EPOCH=$(date +%s)`")
+        raise layout.Mistake(f"the files get the time of the commit, and {why_no_commit()}. `make deb dist SOURCE_DATE_EPOCH=$(date +%s)` gives a time")
     return int(told_time)
