@@ -336,7 +336,7 @@ def in_rounds(words: argparse.Namespace, solver: Optional[str], room: Room) -> i
             found = refusal_of(str(why))
             if not answers or not found:
                 raise
-            say(f"    refused: {found}")
+            say(f"    refused: {found.number} {found.words}")
             words.table.add(words.task, rounds, table.REFUSED, None, clock.taken())
             refused = refused_in_words(rounds, found.number, found.words)
             break
