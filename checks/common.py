@@ -74,6 +74,11 @@ class Script(argparse.ArgumentParser):
                 self.error(f"{found.program} is not there: `make build` leaves bin/wfcheck, and `make verifier` bin/wfverify")
         return found
 
+    def needs_rt(self):
+        """Ends the script if the toolchain is not there."""
+        if not shutil.which("rt"):
+            self.error("`rt`, the toolchain that proves, is not on the path (README.md, \"The proved build\"). release/wfcheck runs without it")
+
     def chosen(self, things, words, name, fits=str.__eq__):
         """The things of which a name fits one of the words, or all where no word is given. A word that is a whole name picks that one
         alone, and one that fits none ends the script."""
