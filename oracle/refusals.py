@@ -11,13 +11,15 @@ NOTES = [
     (r"2 NotJson", f"a task file is JSON text; {LINT}"),
     (r"3 Shape version \d+", f'a task file has the key "version", which is 1 or 2; {LINT}'),
     (r"3 Shape .*|4 Version|7 Colours|(9|10|11|12|13) .*|14 NoInput|18 FirstBlock", LINT),
+    (r"5 Processes", "a task has 1 to 4 processes"),
     (r"16 Rounds", "the number of rounds is 0 to 8"),
     (r"17 TooManyExecutions", "after so many rounds the task has more than 500000 executions"),
-    (r"20 Syntax 1", "standard input has no report; a task goes behind --task, a solver's proof to `wfcheck proof`, "
-     "an obstruction to verify or explain"),
+    (r"20 Syntax 1", "standard input has no report; a task goes behind --task, a solver's proof to `wfcheck proof` or "
+     "`wfverify --proof`, an obstruction to verify or explain"),
     (r"21 Header \d+", "the number in this line is not that of the task: the text may be about another task or other rounds"),
+    (r"23 Violates \d+", "the map breaks the task's rule in this execution: the report may be about another task"),
     (r"28 Unfinished", "the lines of the report end too soon; `wfcheck solve --verdict` leaves them out"),
-    (r"36 OtherRounds", "the third line of a report tells its rounds"),
+    (r"36 OtherRounds", "the third line of a report tells its rounds, and a map is lifted to as many rounds or more"),
     (r"44 NoBranch \d+", "branches are numbered from 0, and `wfcheck branches` lists them"),
 ]
 # of a proof: what a solver's model is refused by has the same numbers

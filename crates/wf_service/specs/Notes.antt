@@ -42,7 +42,7 @@ abbrev pub task_note : TaskFault → Option (List ℕ)
 task_note task.NotJson = Some (codes "a task file is JSON text; " ++ lint_note)
 task_note (task.Shape key.Version place) = Some (codes "a task file has the key \"version\", which is 1 or 2; " ++ lint_note)
 task_note task.TooLong = None
-task_note task.Processes = None
+task_note task.Processes = Some (codes "a task has 1 to 4 processes")
 task_note task.Value = None
 task_note (task.TooMany limit) = None
 task_note task.OutOfMemory = None
@@ -53,12 +53,13 @@ build_note build.Rounds = Some (codes "the number of rounds is 0 to 8")
 build_note build.TooManyExecutions = Some (codes "after so many rounds the task has more than 500000 executions")
 build_note build.OutOfMemory = None
 
--- no report at all, a report of something else, or one without its lines
+-- no report at all, a report of something else, a wrong map, or a report without its lines
 abbrev pub report_note : CertFault → Option (List ℕ)
 report_note (amiss.Syntax line) =
-    if line == 1 then Some (codes "standard input has no report; a task goes behind --task, a solver's proof to `wfcheck proof`, an obstruction to verify or explain") else None
+    if line == 1 then Some (codes "standard input has no report; a task goes behind --task, a solver's proof to `wfcheck proof` or `wfverify --proof`, an obstruction to verify or explain") else None
 report_note (amiss.Header line) =
     Some (codes "the number in this line is not that of the task: the text may be about another task or other rounds")
+report_note (amiss.Violates execution) = Some (codes "the map breaks the task's rule in this execution: the report may be about another task")
 report_note amiss.Unfinished = Some (codes "the lines of the report end too soon; `wfcheck solve --verdict` leaves them out")
 report_note e = None
 
@@ -82,6 +83,6 @@ note_of (run.Build e) = build_note e
 note_of (run.Cert e) = report_note e
 note_of (run.Proof e) = clausal_note e
 note_of (run.Hints e) = hinted_note e
-note_of run.OtherRounds = Some (codes "the third line of a report tells its rounds")
+note_of run.OtherRounds = Some (codes "the third line of a report tells its rounds, and a map is lifted to as many rounds or more")
 note_of (run.NoBranch branches) = Some (codes "branches are numbered from 0, and `wfcheck branches` lists them")
 note_of e = None

@@ -61,7 +61,9 @@ pub(crate) fn note_of(fault: &RunFault) -> Option<&'static str>
         RunFault::Cert(fault) => report_note(fault),
         RunFault::Proof(fault) => clausal_note(fault),
         RunFault::Hints(fault) => hinted_note(fault),
-        RunFault::OtherRounds => Some("the third line of a report tells its rounds"),
+        RunFault::OtherRounds => Some(
+            "the third line of a report tells its rounds, and a map is lifted to as many rounds or more",
+        ),
         RunFault::NoBranch { .. } => {
             Some("branches are numbered from 0, and `wfcheck branches` lists them")
         }
@@ -80,11 +82,9 @@ fn task_note(fault: TaskFault) -> Option<&'static str>
         TaskFault::Shape(Key::Version, _) => Some(
             "a task file has the key \"version\", which is 1 or 2; `wfcheck-lint FILE` says in words why a file is no task",
         ),
-        TaskFault::TooLong
-        | TaskFault::Processes
-        | TaskFault::Value
-        | TaskFault::TooMany(_)
-        | TaskFault::OutOfMemory => None,
+        TaskFault::Processes => Some("a task has 1 to 4 processes"),
+        TaskFault::TooLong | TaskFault::Value | TaskFault::TooMany(_) | TaskFault::OutOfMemory =>
+            None,
         _ => Some(LINT),
     }
 }
@@ -102,17 +102,20 @@ fn build_note(fault: BuildFault) -> Option<&'static str>
     }
 }
 
-/// What is said of a text that is no report, of a report of something else, and of one without its
-/// lines.
+/// What is said of a text that is no report, of a report of something else, of a wrong map, and of
+/// a report without its lines.
 fn report_note(fault: CertFault) -> Option<&'static str>
     ensures { option_map (λ s. s.now) result ≡ report_note fault }
 {
     match fault {
         CertFault::Syntax(1) => Some(
-            "standard input has no report; a task goes behind --task, a solver's proof to `wfcheck proof`, an obstruction to verify or explain",
+            "standard input has no report; a task goes behind --task, a solver's proof to `wfcheck proof` or `wfverify --proof`, an obstruction to verify or explain",
         ),
         CertFault::Header(_) => Some(
             "the number in this line is not that of the task: the text may be about another task or other rounds",
+        ),
+        CertFault::Violates(_) => Some(
+            "the map breaks the task's rule in this execution: the report may be about another task",
         ),
         CertFault::Unfinished => Some(
             "the lines of the report end too soon; `wfcheck solve --verdict` leaves them out",
