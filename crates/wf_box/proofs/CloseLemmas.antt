@@ -50,9 +50,6 @@ pub leaves_by : (closed : Closed) (o : Option Box) (box : Box) → left_by (empt
 leaves_by (Empty v) o box is = sym is
 leaves_by (Open n) o box is = sym is
 
-same_box : {b c : Box} → ◌≡◌ {A = Option Box} (Some b) (Some c) → b ≡ c
-same_box is = cc
-
 -- what is reached is what closing leaves
 pub left_of : (p : Problem) (old new : List Line) (before after : List (List ℕ)) (closed : Closed) → reached new (emptied_by closed) after ≡ and_then (reached old None before) (closing p) → Leaves (closing p (box_of before)).left (box_of after) closed
 left_of p old new before after closed is = leaves_by closed (closing p (box_of before)).left (box_of after) (ap (λ (s : Step). s.left) is)

@@ -16,7 +16,9 @@ use std::io::Read;
 use std::thread::Threads;
 use wf_complex::Protocol;
 use wf_io::Source;
-use wf_report::{AnswerKind, CertFault, Halt, Section, Window, read_values, skim_steps};
+use wf_report::{
+    AnswerKind, CertFault, FIRST_LINE, Halt, Section, Window, read_values, skim_steps,
+};
 use wf_task::Task;
 
 /// What a body is judged by.
@@ -40,7 +42,7 @@ pub fn judge_body<T: Threads + Sync, C: Read>(
     answer: AnswerKind,
 ) -> Result<Result<(), CertFault>, Halt>
     requires can { CanGive source.old window.old }
-    requires number { window.old.number ≡ 7 }
+    requires number { window.old.number ≡ FIRST_LINE }
     requires built { let b = judge.now.protocol.now in IsProtocol judge.now.task.now b.rounds b }
     ensures read { ReadsBody answer
         (IsBodyFault (problem_of judge.now.task.now judge.now.protocol.now.rounds) answer)
@@ -62,7 +64,7 @@ fn judge_values<T: Threads + Sync, C: Read>(
     source: &mut Source<C>,
 ) -> Result<Result<(), CertFault>, Halt>
     requires can { CanGive source.old window.old }
-    requires number { window.old.number ≡ 7 }
+    requires number { window.old.number ≡ FIRST_LINE }
     requires built { let b = judge.now.protocol.now in IsProtocol judge.now.task.now b.rounds b }
     ensures read { let p = problem_of judge.now.task.now judge.now.protocol.now.rounds in
         ReadsMap Values (IsMapFault p) source.old source.new window.old window.new result }
@@ -83,7 +85,7 @@ fn judge_search<T: Threads + Sync, C: Read>(
     source: &mut Source<C>,
 ) -> Result<Result<(), CertFault>, Halt>
     requires can { CanGive source.old window.old }
-    requires number { window.old.number ≡ 7 }
+    requires number { window.old.number ≡ FIRST_LINE }
     requires built { let b = judge.now.protocol.now in IsProtocol judge.now.task.now b.rounds b }
     ensures read { let p = problem_of judge.now.task.now judge.now.protocol.now.rounds in
         ReadsMap Search (IsLeastFault p) source.old source.new window.old window.new result }

@@ -4,7 +4,7 @@ use Rattle.std.specs.List.{AllByRecursion, list_all, range_with_len}
 use Rattle.std.specs.Option.{is_some}
 use Rattle.std.proofs.Math.Nat.{mul-le-mul_right}
 use Rattle.std.proofs.Math.ListN.{set}
-use Rattle.std.proofs.lemmas.Bool.{and_parts, cond-true, cond-false, lt-leb, le-leb, ltb-true}
+use Rattle.std.proofs.lemmas.Bool.{and_parts, cond-true, le-leb, ltb-true}
 use Rattle.std.proofs.lemmas.List.{length-map, map-append, take_more_set}
 use Rattle.std.proofs.lemmas.List.Folds.{list_any-append}
 use Rattle.std.proofs.lemmas.List.FromFn.{length-map-range_with_len, map-range_with_len_more}
@@ -150,9 +150,6 @@ cover_long c rule long u h = by (is_corner c rule) refl (is_part rule.input c.ru
         choices_long (sheets_of c) (processes_of rule.input) r.0 u (row ∙ sym ps) r.2 ∙ ps
 
 -- ---- which limit a cover is above
-
-pub too_many_sheets : (c : Covering) (t : Task) → first_new < c.sheets * new_name t → sheets_fault c t ≡ Some TooManyNames
-too_many_sheets c t many = cond-false (nat_le (c.sheets * new_name t) first_new) (tuples_fault (tuples_covered c) t) (Some TooManyNames) (lt-leb (c.sheets * new_name t) first_new many)
 
 pub few_sheets : (c : Covering) (t : Task) → c.sheets * new_name t ≤ first_new → sheets_fault c t ≡ tuples_fault (tuples_covered c) t
 few_sheets c t few = cond-true (nat_le (c.sheets * new_name t) first_new) (tuples_fault (tuples_covered c) t) (Some TooManyNames) (le-leb (c.sheets * new_name t) first_new few)

@@ -55,9 +55,6 @@ all_has p x [] h here = absurd here
 all_has p x (y ∷ ys) h (inl e) = ap p (sym e) ∙ (and_parts (p y) (list_all p ys) h).0
 all_has p x (y ∷ ys) h (inr later) = all_has p x ys (and_parts (p y) (list_all p ys) h).1 later
 
-in_face : Simplex → Vertex → Bool
-in_face q v = list_any (same_vertex v) q
-
 keep_filter : {X : Type 0} (p : X → Bool) (xs : List X) → keep (map p xs) xs ≡ filter p xs
 keep_filter p [] = refl
 keep_filter p (x ∷ xs) = by (keep_filter p xs) (p x)

@@ -7,7 +7,7 @@ ghost use Rattle.wf_report.specs.Windows.{CanGive};
 use crate::front::AnswerKind;
 use crate::halt::Halt;
 use crate::lines::{next_step, read_values};
-use crate::reading::Section;
+use crate::reading::{FIRST_LINE, Section};
 use crate::window::Window;
 use std::alloc::Global;
 use std::io::Read;
@@ -21,7 +21,7 @@ pub fn skim_body<C: Read>(
     answer: AnswerKind,
 ) -> Result<(), Halt>
     requires can { CanGive source.old window.old }
-    requires number { window.old.number ≡ 7 }
+    requires number { window.old.number ≡ FIRST_LINE }
     ensures read { ReadsBody answer IsAnyBody source.old source.new window.old window.new result }
     ensures ended { OnOk result (window.new.ended ≡ true) }
     ensures can { OnOk result (CanGive source.new window.new) }
@@ -41,7 +41,7 @@ fn skim_values<C: Read>(
     part: Section,
 ) -> Result<(), Halt>
     requires can { CanGive source.old window.old }
-    requires number { window.old.number ≡ 7 }
+    requires number { window.old.number ≡ FIRST_LINE }
     ensures read { ReadsMap part AreAnyValues source.old source.new window.old window.new result }
     ensures ended { OnOk result (window.new.ended ≡ true) }
     ensures can { OnOk result (CanGive source.new window.new) }

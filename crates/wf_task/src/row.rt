@@ -1,6 +1,7 @@
 //! A tuple of at most four values.
 
 ghost use Rattle.std.specs.Prelude.{◌≡◌, ℕ, ◌<◌, ◌≤◌, All, length, slice_index};
+ghost use Rattle.wf_task.specs.Tuples.{IsRow};
 
 use std::cmp::Ordering;
 use std::marker::Model;
@@ -53,9 +54,7 @@ impl Row {
 
     /// The row of these values.
     pub(crate) fn of_values(values: &[u64]) -> Row
-        requires some { 1 ≤ length values.now }
-        requires few { length values.now ≤ 4 }
-        requires small { All (λ x. x ≤ 255) values.now }
+        requires { IsRow values.now }
         ensures { result ≡ values.now }
     {
         let mut row = [0; 4];

@@ -17,14 +17,6 @@ use wf_draft::{DeltaEntry, ValueList};
 use wf_set::{Mask, nothing, with};
 use wf_simplex::Simplex;
 
-/// The row of a value list.
-fn row_of(values: &[u64]) -> Row
-    requires { IsRow values.now }
-    ensures { result ≡ values.now }
-{
-    Row::of_values(values)
-}
-
 /// The rows of value lists: ascending, each once. It takes n log n steps, and five bytes a list.
 fn rows(alloc: Global, lists: &[ValueList]) -> Result<Vec<Row>, AllocError>
     requires { All IsRow (map (λ t. t.items) lists.now) }
@@ -33,7 +25,7 @@ fn rows(alloc: Global, lists: &[ValueList]) -> Result<Vec<Row>, AllocError>
 {
     let mut rows = Vec::with_capacity(alloc, lists.len())?;
     for list in lists {
-        rows.push(row_of(list))?;
+        rows.push(Row::of_values(list))?;
     }
     rows.sort_unstable();
     rows.dedup();

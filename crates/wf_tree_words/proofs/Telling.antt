@@ -87,11 +87,6 @@ none_told : (levels : ℕ) (t : Task) (depth : ℕ) → told levels t depth [] �
 none_told zero t depth = refl
 none_told (suc levels) t depth = refl
 
-pub end_told : (levels : ℕ) (t : Task) (depth place : ℕ) (nodes : List Node) → length nodes ≤ place → told levels t depth (drop place nodes) ≡ ([], drop place nodes)
-end_told levels t depth place nodes past =
-    let none = drop_all place nodes past in
-    ap (told levels t depth) none ∙ none_told levels t depth ∙ ap (λ ns. ([], ns)) (sym none)
-
 pub balance_told : (levels : ℕ) (t : Task) (depth modulus sum : ℕ) (xs : List Multiplier) (nodes : List Node) → told levels t depth (balance_node modulus sum xs ∷ nodes) ≡ behind (balance_text t depth modulus sum xs) ([], nodes)
 balance_told zero t depth modulus sum xs nodes = ap (λ x. (x, nodes)) (sym (append-nil (balance_text t depth modulus sum xs)))
 balance_told (suc levels) t depth modulus sum xs nodes = ap (λ x. (x, nodes)) (sym (append-nil (balance_text t depth modulus sum xs)))
@@ -150,9 +145,6 @@ module _ (t : Task) (rows : List (List Tuple)) (simplex depth : ℕ) (nodes : Li
       ap (λ m. told m hand depth (split_node simplex ∷ nodes)) (sym e)
       ∙ ap (λ b. if b then if_split (told (levels - 1) (split splitting hand) depth nodes) (split_fault splitting hand) else ([], nodes)) (is_there t rows simplex at low)
 
-  pub split_above : (levels : ℕ) (fault : RefineFault) → 0 < levels → simplex < length rows → split_fault splitting hand ≡ Some fault → told levels hand depth (split_node simplex ∷ nodes) ≡ ([], nodes)
-  split_above levels fault some low is = split_here levels some low ∙ ap (if_split (told (levels - 1) (split splitting hand) depth nodes)) is
-
   pub split_there : (levels : ℕ) (found : List (List Tuple)) → 0 < levels → simplex < length rows → split_fault splitting hand ≡ None → at_hand t found ≡ split splitting hand
       → told levels hand depth (split_node simplex ∷ nodes) ≡ behind (split_text depth splitting (new_name hand)) (told (levels - 1) (at_hand t found) depth nodes)
   split_there levels found some low none made =
@@ -181,14 +173,6 @@ module _ (t : Task) (rows : List (List Tuple)) (simplex depth : ℕ) (nodes : Li
         let e : suc (levels - 1) ≡ levels = omega (arith, some) in
         ap (λ m. told m hand depth (cover_node simplex sheets corner moves ∷ nodes)) (sym e)
         ∙ ap (λ b. if b then if_cover (told (levels - 1) (covered covering hand) depth nodes) (cover_fault covering) else ([], nodes)) (is_there t rows simplex at low)
-
-    pub cover_faulty : (levels : ℕ) (fault : CoverFault) → 0 < levels → simplex < length rows → cover_fault covering ≡ Some fault → told levels hand depth (cover_node simplex sheets corner moves ∷ nodes) ≡ ([], nodes)
-    cover_faulty levels fault some low is = cover_here levels some low ∙ ap (if_cover (told (levels - 1) (covered covering hand) depth nodes)) is
-
-    pub cover_above : (levels : ℕ) (fault : RefineFault) → 0 < levels → simplex < length rows → cover_fault covering ≡ None → sheets_fault covering hand ≡ Some fault → told levels hand depth (cover_node simplex sheets corner moves ∷ nodes) ≡ ([], nodes)
-    cover_above levels fault some low none is =
-        cover_here levels some low ∙ ap (if_cover (told (levels - 1) (covered covering hand) depth nodes)) none
-        ∙ ap (if_sheets (told (levels - 1) (covered covering hand) depth nodes)) is
 
     pub cover_there : (levels : ℕ) (found : List (List Tuple)) → 0 < levels → simplex < length rows → cover_fault covering ≡ None → sheets_fault covering hand ≡ None → at_hand t found ≡ covered covering hand
         → told levels hand depth (cover_node simplex sheets corner moves ∷ nodes) ≡ behind (cover_text depth (rule_at hand simplex).input (new_name hand) sheets corner moves) (told (levels - 1) (at_hand t found) depth nodes)

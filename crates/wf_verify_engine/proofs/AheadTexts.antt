@@ -21,8 +21,8 @@ use Rattle.wf_run.specs.Faults.{of_read, of_report_fault}
 use Rattle.wf_run.specs.Run.{answered}
 use Rattle.wf_run.specs.declared.fault.RunFault.{RunFault}
 use Rattle.wf_run.specs.declared.fault.RunFault.TheVariants as run
-use Rattle.wf_verify_engine.specs.AsRead.{ChecksOn, IsFirst, IsForRounds, IsReported, IsTold, ReadsOn, ReadsReport, text_of}
-use Rattle.wf_verify_engine.specs.Verify.{ChecksReport, IsAccepted, IsFaultless, IsReportOf, IsVerifiedFor, accepted_of, accepted_text}
+use Rattle.wf_verify_engine.specs.AsRead.{ChecksOn, IsFirst, IsForRounds, IsReported, IsTold, ReadsOn, ReadsReport}
+use Rattle.wf_verify_engine.specs.Verify.{ChecksReport, IsAccepted, IsFaultless, IsReportOf, IsVerifiedFor, text_of}
 use Rattle.wf_verify_engine.specs.declared.outcome.Accepted.{Accepted}
 use Rattle.wf_verify_engine.proofs.AheadReports.{refused_for}
 
@@ -105,11 +105,6 @@ module _ (rounds : Option ℕ) (t : Task) (old : Reading) (w : Ahead) (first : I
 
 -- ---- what is told
 
-same_text : (rounds : Option ℕ) (accepted : Accepted) (body : reports.Body) → accepted ≡ accepted_of body → text_of rounds accepted ≡ accepted_text rounds body
-same_text rounds accepted (reports.a_map m) is = ap (text_of rounds) is
-same_text rounds accepted (reports.none ls) is = ap (text_of rounds) is
-same_text rounds accepted (reports.least m ls) is = ap (text_of rounds) is
-
 accepted_for : (rounds : Option ℕ) (t : Task) (r : reports.Report) (answer : Accepted × List ℕ) → IsForRounds rounds r.rounds → IsFaultless t r → IsAccepted rounds t r answer.0 answer.1 → IsVerifiedFor rounds (IsAccepted rounds) t r (Ok answer)
 accepted_for None t r answer for_these faultless is = (faultless, is)
 accepted_for (Some wanted) t r answer for_these faultless is = inl (for_these, (faultless, is))
@@ -117,7 +112,7 @@ accepted_for (Some wanted) t r answer for_these faultless is = inl (for_these, (
 -- what was found of a report is told
 told_is : (rounds : Option ℕ) (t : Task) (r : reports.Report) (reported : Result Accepted RunFault) (result : Result (Accepted × List ℕ) RunFault) → IsReported rounds t r reported → IsTold rounds reported result → IsVerifiedFor rounds (IsAccepted rounds) t r result
 told_is rounds t r (Ok accepted) (Ok answer) (for_these, faultless, same) (is, text) =
-    accepted_for rounds t r answer for_these faultless (is ∙ same, text ∙ same_text rounds accepted r.body same)
+    accepted_for rounds t r answer for_these faultless (is ∙ same, text ∙ ap (text_of rounds) same)
 told_is rounds t r (Ok accepted) (Err e) (for_these, faultless, same) is =
     subst (λ e. IsVerifiedFor rounds (IsAccepted rounds) t r (Err e)) (sym is) (refused_for rounds t r run.OutOfMemory for_these tt)
 told_is rounds t r (Err e) result reported is = subst (IsVerifiedFor rounds (IsAccepted rounds) t r) (sym is) reported

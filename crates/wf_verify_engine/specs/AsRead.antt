@@ -1,5 +1,5 @@
 -- What is found of a report while it is read.
-use Rattle.std.specs.Prelude.{◌≡◌, ℕ, List, ◌++◌, length, codes, Option, Some, None, IfOk, Result, Ok, Err}
+use Rattle.std.specs.Prelude.{◌≡◌, ℕ, List, ◌++◌, length, Option, Some, None, IfOk, Result, Ok, Err}
 use Rattle.wf_model.specs.Task.{Task}
 use Rattle.wf_model.specs.Problem.{problem_of}
 use Rattle.wf_model.specs.Report as reports
@@ -21,7 +21,7 @@ use Rattle.wf_run.specs.Faults.{of_report_fault}
 use Rattle.wf_run.specs.Run.{Judged, Next}
 use Rattle.wf_run.specs.declared.fault.RunFault.{RunFault}
 use Rattle.wf_run.specs.declared.fault.RunFault.TheVariants.{OutOfMemory}
-use Rattle.wf_verify_engine.specs.Verify.{IsAccepted, IsFaultOf, IsFaultless, IsReportOf, IsVerifiedFor, accepted_of, rounds_end}
+use Rattle.wf_verify_engine.specs.Verify.{IsAccepted, IsFaultOf, IsFaultless, IsReportOf, IsVerifiedFor, accepted_of, text_of}
 use Rattle.wf_verify_engine.specs.declared.outcome.Accepted.{Accepted}
 use Rattle.wf_verify_engine.specs.declared.outcome.Accepted.TheVariants.{Map, Nothing, Least}
 
@@ -74,15 +74,6 @@ IsPreparedFor rounds t h (Err e) = (body : reports.Body) → IsVerifiedFor round
 abbrev pub IsReported : Option ℕ → Task → reports.Report → Result Accepted RunFault → Type 0
 IsReported rounds t r (Ok accepted) = IsForRounds rounds r.rounds × IsFaultless t r × (accepted ≡ accepted_of r.body)
 IsReported rounds t r (Err e) = IsVerifiedFor rounds (IsAccepted rounds) t r (Err e)
-
--- the line that says what is accepted, and for how many rounds, where these are asked for
-abbrev pub words_of : Accepted → List ℕ
-words_of Map = codes "accepted map"
-words_of Nothing = codes "accepted none"
-words_of Least = codes "accepted least"
-
-abbrev pub text_of : Option ℕ → Accepted → List ℕ
-text_of rounds accepted = words_of accepted ++ rounds_end rounds
 
 -- the answer, if its body has no fault
 abbrev pub accepted_if : {X : Type 0} → Result X CertFault → AnswerKind → Result Accepted RunFault

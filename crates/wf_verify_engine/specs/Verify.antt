@@ -39,16 +39,19 @@ IsReportOf most text (Err TooLong) = IsBeyond most text
 IsReportOf most text (Err OutOfMemory) = Unit {0}
 IsReportOf most text (Err e) = ⊥
 
--- what is accepted of a report with this answer, and the line that says so
+-- what is accepted of a report with this answer, and the words that say so
 abbrev pub accepted_of : Body → Accepted
 accepted_of (a_map m) = Map
 accepted_of (none ls) = Nothing
 accepted_of (least m ls) = Least
 
+abbrev pub words_of : Accepted → List ℕ
+words_of Map = codes "accepted map"
+words_of Nothing = codes "accepted none"
+words_of Least = codes "accepted least"
+
 abbrev pub accepted_words : Body → List ℕ
-accepted_words (a_map m) = codes "accepted map"
-accepted_words (none ls) = codes "accepted none"
-accepted_words (least m ls) = codes "accepted least"
+accepted_words body = words_of (accepted_of body)
 
 -- how a line ends that tells the rounds, where they are asked for
 abbrev pub rounds_end : Option ℕ → List ℕ
@@ -57,8 +60,11 @@ rounds_end (Some rounds) =
     if rounds == 1 then codes " at 1 round" ++ 10 ∷ [] else codes " at " ++ (decimal rounds ++ (codes " rounds" ++ 10 ∷ []))
 
 -- the line that says what is accepted, and for how many rounds, where these are asked for
+abbrev pub text_of : Option ℕ → Accepted → List ℕ
+text_of rounds accepted = words_of accepted ++ rounds_end rounds
+
 abbrev pub accepted_text : Option ℕ → Body → List ℕ
-accepted_text rounds body = accepted_words body ++ rounds_end rounds
+accepted_text rounds body = text_of rounds (accepted_of body)
 
 -- what a report answers, and the line that says so
 abbrev pub IsAccepted : Option ℕ → Task → Report → Accepted → List ℕ → Type 0

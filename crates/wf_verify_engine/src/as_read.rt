@@ -5,8 +5,8 @@ ghost use Rattle.wf_model.specs.Limits.{most_bytes};
 ghost use Rattle.wf_io.specs.Ends.{CanRead};
 ghost use Rattle.wf_report.specs.Windows.{CanGive};
 ghost use Rattle.wf_run.specs.Run.{answered};
-ghost use Rattle.wf_verify_engine.specs.AsRead.{ChecksOn, IsFirst, IsPrepared, IsPreparedFor, IsTold, ReadsReport, accepted_as, accepted_if, text_of, words_of};
-ghost use Rattle.wf_verify_engine.specs.Verify.{ChecksReport, IsAccepted};
+ghost use Rattle.wf_verify_engine.specs.AsRead.{ChecksOn, IsFirst, IsPrepared, IsPreparedFor, IsTold, ReadsReport, accepted_as, accepted_if};
+ghost use Rattle.wf_verify_engine.specs.Verify.{ChecksReport, IsAccepted, text_of, words_of};
 
 use crate::outcome::Accepted;
 use std::alloc::{AllocError, Global};
@@ -170,7 +170,7 @@ pub(crate) fn accepted_text(
 }
 
 /// The words that tell what is accepted.
-fn words_of(accepted: Accepted) -> &'static str
+pub(crate) fn words_of(accepted: Accepted) -> &'static str
     ensures { result.now ≡ words_of accepted }
 {
     match accepted {

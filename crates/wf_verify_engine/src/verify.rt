@@ -11,7 +11,7 @@ ghost use Rattle.wf_run.specs.Run.{Ran, Reads, answered};
 ghost use Rattle.wf_run.specs.Sources.{CanReadBoth};
 ghost use Rattle.wf_verify_engine.specs.Verify.{Checks, ChecksReport, IsAccepted, IsReportOf, IsVerified, IsVerifiedFor, Judges, Verifies, accepted_words, seen};
 
-use crate::as_read::{Asked, verify_report};
+use crate::as_read::{Asked, verify_report, words_of};
 use crate::outcome::Accepted;
 use std::alloc::Global;
 use std::io::{Read, Write};
@@ -200,9 +200,10 @@ pub fn check_report<T: Threads + Sync>(
 pub fn accepted_words(body: &Body) -> &'static str
     ensures { result.now ≡ accepted_words (body_of body.now) }
 {
-    match body {
-        Body::Map(_) => "accepted map",
-        Body::Nothing(_) => "accepted none",
-        Body::Least(_, _) => "accepted least",
-    }
+    let accepted = match body {
+        Body::Map(_) => Accepted::Map,
+        Body::Nothing(_) => Accepted::Nothing,
+        Body::Least(_, _) => Accepted::Least,
+    };
+    words_of(accepted)
 }

@@ -4,14 +4,14 @@ use Rattle.wf_task.proofs.TupleLemmas.{seen_here}
 use Rattle.wf_task.proofs.RowLemmas.{row_more, rows_sorted}
 use Rattle.wf_task.proofs.rows.rows.Goals as goal
 
-pub row_of-requires : goal.row_of-requires
-row_of-requires c =
+pub of_values-requires : goal.of_values-requires
+of_values-requires c =
     subst IsRow (sym c.deref.ensures) (seen_here IsRow (λ t. t.items) c.args.lists.now c.loop-list.list-index c.list-item.result c.loop-list-test.true c.list-item.is c.requires)
 
 pub loop-list-preserved : goal.loop-list-preserved
 loop-list-preserved c =
-    row_more c.loop-list.rows.items c.push.new.self.items c.args.lists.now c.loop-list.list-index c.list-item.result c.row_of.result
-    c.loop-list-test.true c.list-item.is (c.row_of.ensures ∙ c.deref.ensures) c.loop-list.invariant c.in_ok-push.ensures.items
+    row_more c.loop-list.rows.items c.push.new.self.items c.args.lists.now c.loop-list.list-index c.list-item.result c.of_values.result
+    c.loop-list-test.true c.list-item.is (c.of_values.ensures ∙ c.deref.ensures) c.loop-list.invariant c.in_ok-push.ensures.items
 
 pub returns : goal.returns
 returns c =
