@@ -3,7 +3,7 @@
 It shares nothing with the program. Beside words that are not taken it is the usual line, by crates/wf_args/specs/Usage.antt."""
 import re
 
-LINT = "`wfcheck-lint FILE` says in words why a file is no task"
+LINT = "`wfcheck-lint FILE` (in the repository tools/lint.py) says in words why a file is no task"
 INSTALLED = "is a command of its own, which `make install` installs"
 TASK = "the task is read from standard input, as in"
 # of a refusal whose line is all of the pattern
@@ -20,9 +20,12 @@ NOTES = [
     (r"23 Violates \d+", "the map breaks the task's rule in this execution: the report may be about another task"),
     (r"28 Unfinished", "the lines of the report end too soon; `wfcheck solve --verdict` leaves them out"),
     (r"36 OtherRounds", "the third line of a report tells its rounds, and a map is lifted to as many rounds or more"),
+    (r"37 NoModel \d+", "the text has no model; `wfcheck proof` checks a solver's proof that there is none"),
     (r"44 NoBranch \d+", "branches are numbered from 0, and `wfcheck branches` lists them"),
 ]
-# of a proof: what a solver's model is refused by has the same numbers
+# a solver's model and its proof may be refused by the same numbers
+MODEL = re.compile(r"(38|39) .*")
+MODEL_NOTE = "a model is what a SAT solver prints of the question that `wfcheck cnf` writes for the same task and rounds"
 PROOF = re.compile(r"(38|39|40|41|61|62|63|64) .*")
 PROOF_NOTE = "a proof is about what `wfcheck cnf` writes for the same task, rounds and branch; --lrat is for proofs with hints alone"
 FILE_NOTE = "this is about the file that --task names"
@@ -65,6 +68,7 @@ def told(refusal, is_filed=False, is_proof=False):
     notes = [FILE_NOTE] * (is_filed and refusal == "2 NotJson")
     notes += next(([note] for line, note in NOTES if re.fullmatch(line, refusal)), [])
     notes += [PROOF_NOTE] * (is_proof and PROOF.fullmatch(refusal) is not None)
+    notes += [MODEL_NOTE] * (not is_proof and MODEL.fullmatch(refusal) is not None)
     return f"wfcheck: {refusal}\n" + "".join(f"  note: {note}\n" for note in notes)
 
 

@@ -139,5 +139,5 @@ def refusal(said: str) -> Optional[Refused]:
     found = REFUSAL.search(said)
     if not found:
         return None
-    notes = found[3].replace(f"`{NAME}-lint ", f"`{linter()} ").split("\n  note: ")[1:]
+    notes = found[3].replace(f"`{NAME}-lint FILE` (in the repository tools/lint.py)", f"`{linter()} FILE`").split("\n  note: ")[1:]
     return Refused(int(found[1]), found[2], notes)

@@ -1,5 +1,7 @@
 -- What is told below the line of a refusal: a note for whoever meets it for the first time.
 use Rattle.std.specs.Prelude.{ℕ, List, [], ◌∷◌, ◌++◌, Option, Some, None, codes, ◌==◌, if◌then◌else◌}
+use Rattle.wf_cnf.specs.declared.solver.ModelFault.{ModelFault}
+use Rattle.wf_cnf.specs.declared.solver.ModelFault.TheVariants as model
 use Rattle.wf_complex.specs.declared.fault.BuildFault.{BuildFault}
 use Rattle.wf_complex.specs.declared.fault.BuildFault.TheVariants as build
 use Rattle.wf_draft.specs.declared.fault.Key.TheVariants as key
@@ -35,7 +37,7 @@ file_note e file = None
 
 -- who says more of a text that is no task
 abbrev pub lint_note : List ℕ
-lint_note = codes "`wfcheck-lint FILE` says in words why a file is no task"
+lint_note = codes "`wfcheck-lint FILE` (in the repository tools/lint.py) says in words why a file is no task"
 
 -- a text that is no task; a preset may have too many processes or values too, or be too large
 abbrev pub task_note : TaskFault → Option (List ℕ)
@@ -63,6 +65,11 @@ report_note (amiss.Violates execution) = Some (codes "the map breaks the task's 
 report_note amiss.Unfinished = Some (codes "the lines of the report end too soon; `wfcheck solve --verdict` leaves them out")
 report_note e = None
 
+abbrev pub model_note : ModelFault → Option (List ℕ)
+model_note model.OutOfMemory = None
+model_note (model.NoModel line) = Some (codes "the text has no model; `wfcheck proof` checks a solver's proof that there is none")
+model_note e = Some (codes "a model is what a SAT solver prints of the question that `wfcheck cnf` writes for the same task and rounds")
+
 -- what a solver's proof has to be about
 abbrev pub proof_note : List ℕ
 proof_note = codes "a proof is about what `wfcheck cnf` writes for the same task, rounds and branch; --lrat is for proofs with hints alone"
@@ -81,6 +88,7 @@ abbrev pub note_of : RunFault → Option (List ℕ)
 note_of (run.Task e) = task_note e
 note_of (run.Build e) = build_note e
 note_of (run.Cert e) = report_note e
+note_of (run.Model e) = model_note e
 note_of (run.Proof e) = clausal_note e
 note_of (run.Hints e) = hinted_note e
 note_of run.OtherRounds = Some (codes "the third line of a report tells its rounds, and a map is lifted to as many rounds or more")

@@ -1,10 +1,11 @@
 //! What is told below the line of a refusal.
 
 ghost use Rattle.std.specs.Prelude.{◌≡◌, Some, option_map};
-ghost use Rattle.wf_service.specs.Notes.{build_note, clausal_note, file_note, hinted_note, note_line, note_of, report_note, task_note};
+ghost use Rattle.wf_service.specs.Notes.{build_note, clausal_note, file_note, hinted_note, model_note, note_line, note_of, report_note, task_note};
 
 use crate::files::FileState;
 use std::fmt;
+use wf_cnf::ModelFault;
 use wf_complex::BuildFault;
 use wf_draft::{Key, TaskFault};
 use wf_lrat::HintFault;
@@ -13,7 +14,8 @@ use wf_run::RunFault;
 use wf_rup::ProofFault;
 
 /// Who says more of a text that is no task.
-const LINT: &str = "`wfcheck-lint FILE` says in words why a file is no task";
+const LINT: &str =
+    "`wfcheck-lint FILE` (in the repository tools/lint.py) says in words why a file is no task";
 
 /// What a solver's proof has to be about.
 const PROOF: &str =
@@ -59,6 +61,7 @@ pub(crate) fn note_of(fault: &RunFault) -> Option<&'static str>
         RunFault::Task(fault) => task_note(fault),
         RunFault::Build(fault) => build_note(fault),
         RunFault::Cert(fault) => report_note(fault),
+        RunFault::Model(fault) => model_note(fault),
         RunFault::Proof(fault) => clausal_note(fault),
         RunFault::Hints(fault) => hinted_note(fault),
         RunFault::OtherRounds => Some(
@@ -77,10 +80,10 @@ fn task_note(fault: TaskFault) -> Option<&'static str>
 {
     match fault {
         TaskFault::NotJson => Some(
-            "a task file is JSON text; `wfcheck-lint FILE` says in words why a file is no task",
+            "a task file is JSON text; `wfcheck-lint FILE` (in the repository tools/lint.py) says in words why a file is no task",
         ),
         TaskFault::Shape(Key::Version, _) => Some(
-            "a task file has the key \"version\", which is 1 or 2; `wfcheck-lint FILE` says in words why a file is no task",
+            "a task file has the key \"version\", which is 1 or 2; `wfcheck-lint FILE` (in the repository tools/lint.py) says in words why a file is no task",
         ),
         TaskFault::Processes => Some("a task has 1 to 4 processes"),
         TaskFault::TooLong | TaskFault::Value | TaskFault::TooMany(_) | TaskFault::OutOfMemory =>
@@ -121,6 +124,21 @@ fn report_note(fault: CertFault) -> Option<&'static str>
             "the lines of the report end too soon; `wfcheck solve --verdict` leaves them out",
         ),
         _ => None,
+    }
+}
+
+/// What is said of a text that has no model.
+fn model_note(fault: ModelFault) -> Option<&'static str>
+    ensures { option_map (λ s. s.now) result ≡ model_note fault }
+{
+    match fault {
+        ModelFault::OutOfMemory => None,
+        ModelFault::NoModel { .. } => Some(
+            "the text has no model; `wfcheck proof` checks a solver's proof that there is none",
+        ),
+        ModelFault::NotALiteral { .. } | ModelFault::NoSuchVariable { .. } => Some(
+            "a model is what a SAT solver prints of the question that `wfcheck cnf` writes for the same task and rounds",
+        ),
     }
 }
 
