@@ -27,13 +27,15 @@ static Set spread(u64 bits, Set mask) {
 
 // A thread has one of its own, over all the boxes that it searches.
 class Caches {
-    static constexpr u32 most_bits = 16, memo_size = 1 << 16, unknown = ~0u;
+    static constexpr u32 most_bits = 16, unknown = ~0u;
+    static constexpr size_t first_size = 64, most_size = 1 << 18;
     struct Small { u32 bits = 0, shifts[4] = {}; std::vector<u32> answers; };
     struct Known { u32 rule = unknown; Set candidates[4] = {}, supported[4] = {}; };
 
     const Problem& problem;
     std::vector<Small> small;  // of each rule
     std::vector<Known> memo;
+    size_t misses = 0;         // since it has this size
     Set found[4];
 
     const Set* looked_up(u32 rule, u32 places, const Set* candidates) {
@@ -52,14 +54,25 @@ class Caches {
         for (u32 c = 0; c < places; c++) found[c] = spread(answer >> s.shifts[c], table.occurs(c));
         return found;
     }
-    const Set* remembered(u32 rule, u32 places, const Set* candidates) {
-        if (memo.empty()) memo.resize(memo_size);
+    Known& place(u32 rule, u32 places, const Set* candidates) {
         u64 hash = mixed(rule + 1);
         for (u32 c = 0; c < places; c++) hash = mixed(hash ^ candidates[c]);
-        Known& known = memo[hash >> 20 & (memo_size - 1)];
+        return memo[hash >> 20 & (memo.size() - 1)];
+    }
+    void grow() {
+        std::vector<Known> old(memo.empty() ? first_size : 4 * memo.size());
+        old.swap(memo);
+        misses = 0;
+        for (const Known& known : old)
+            if (known.rule != unknown) place(known.rule, problem.task.rules[known.rule].simplex.size, known.candidates) = known;
+    }
+    const Set* remembered(u32 rule, u32 places, const Set* candidates) {
+        if (memo.empty() || (misses > memo.size() / 4 && memo.size() < most_size)) grow();
+        Known& known = place(rule, places, candidates);
         bool is_same = known.rule == rule;
         for (u32 c = 0; c < places; c++) is_same &= known.candidates[c] == candidates[c];
         if (is_same) return known.supported;
+        misses++;
         known.rule = rule;
         std::copy(candidates, candidates + places, known.candidates);
         problem.tables[rule].revise(candidates, known.supported);

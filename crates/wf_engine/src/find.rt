@@ -21,7 +21,7 @@ use wf_run::{Answered, RunFault, TaskAnswer, hand_out, read_task, run_over_task}
 use wf_task::Task;
 
 /// How many turns more than there are points a search takes before workers share it.
-const MORE_TURNS_ALONE: u32 = 256;
+const MORE_TURNS_ALONE: u32 = 512;
 
 /// Reads a task and writes the report about it, without an account. What is found and written is
 /// what [`run_counted_search`](crate::run_counted_search) finds and writes.

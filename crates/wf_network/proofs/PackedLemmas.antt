@@ -1,5 +1,5 @@
 -- Parts that are packed in a number.
-use Rattle.std.proofs.Common.{◌≡◌, ℕ, ◌/◌, ◌%◌, ◌<◌, ◌≤◌, ◌^◌, true, List, [], ◌∷◌, map, length, get_or, slice_index, All, refl, sym, ap, ◌∙◌, inl, inr, arith, drop, eq-eqb, eqb-true, subst, div-add-mod', mod-lt, pow_pos}
+use Rattle.std.proofs.Common.{◌≡◌, ℕ, ◌/◌, ◌%◌, ◌<◌, ◌≤◌, ◌^◌, true, List, [], ◌∷◌, map, length, get_or, slice_index, All, refl, sym, ap, ◌∙◌, inl, inr, arith, drop, eq-eqb, eqb-true, div-add-mod', mod-lt, pow_pos}
 use Rattle.std.specs.Int.{bit_at}
 use Rattle.std.proofs.lemmas.Bool.{cases_lt, false≢true}
 use Rattle.std.proofs.lemmas.List.{get_or-map, length-map}
@@ -10,10 +10,10 @@ use Rattle.wf_lane.specs.Table.{HasSupported, Table, sets_of}
 use Rattle.wf_set.specs.Parts.{part_values}
 use Rattle.wf_set.specs.Sets.{values_in}
 use Rattle.wf_set.proofs.Lemmas.{has-part_values, has_large, values_of_part}
-use Rattle.wf_network.specs.Revising.{AreBeyond, nibbles_in, parts_in, wide_set, widened}
+use Rattle.wf_network.specs.Revising.{nibbles_in, parts_in, wide_set, widened}
 use Rattle.wf_network.proofs.LeftLemmas.{sets_at, supported_there}
 
--- ---- parts of which one is not below a limit
+-- ---- parts and their sets
 
 -- no other parts have the same sets
 pub same_parts : (parts others : List ℕ) → widened parts ≡ widened others → parts ≡ others
@@ -24,9 +24,6 @@ same_parts (p ∷ parts) (o ∷ others) same =
     let head : p ≡ o = ap (λ (sets : List (List ℕ)). slice_index (get_or sets 0 []) 0) same in
     let tail : parts ≡ others = same_parts parts others (ap (drop 1) same) in
     λ i. head i ∷ tail i
-
-pub beyond : (limit : ℕ) (parts : List ℕ) (sets : List (List ℕ)) → widened parts ≡ sets → (All (λ p. p < limit) parts → ⊥) → AreBeyond limit sets
-beyond limit parts sets is none others below same = none (subst (All (λ p. p < limit)) (same_parts others parts (same ∙ sym is)) below)
 
 -- ---- parts without what is not below a power of two
 

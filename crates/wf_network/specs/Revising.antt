@@ -26,10 +26,6 @@ widened parts = map wide_set parts
 abbrev pub AreWide : List (List ℕ) → Type 0
 AreWide sets = (parts : List ℕ) → widened parts ≢ sets
 
--- no parts below the limit have these sets, of which one has a value that is too large for that
-abbrev pub AreBeyond : ℕ → List (List ℕ) → Type 0
-AreBeyond limit sets = (parts : List ℕ) → All (λ part. part < limit) parts → widened parts ≢ sets
-
 -- the four parts that are packed in a number, each below the limit, the first one lowest
 abbrev pub packed_in : ℕ → ℕ → List ℕ
 packed_in limit n = (n % limit) ∷ (n / limit % limit) ∷ (n / (limit * limit) % limit) ∷ (n / (limit * limit * limit)) ∷ []

@@ -14,8 +14,14 @@ const FEWEST: usize = 64;
 /// How many there are at most for candidates of which one is 64 or more.
 const MOST_WIDE: usize = 4096;
 
-/// How many there are at most for candidates below 4, below 16 and below 64.
+/// How many there are at most for candidates below 4, and for others below 64 of which one is 16 or
+/// more.
 const MOST_NARROW: usize = 65536;
+
+/// How many there are at most for candidates below 16 of which one is 4 or more. Few values leave
+/// few such answers; many values leave more than there are places, and each costs a walk over the
+/// rule's tuples.
+const MOST_SMALL: usize = 262_144;
 
 /// The places become so many times as many.
 const GROWTH: usize = 4;
@@ -162,7 +168,7 @@ impl Memo {
         ensures { (ks : List Constraint) → AreKnown ks (answers_in self.old)
             → AreKnown ks (answers_in self.new) }
     {
-        let places = places_wanted(self.small.len(), self.small_misses, MOST_NARROW);
+        let places = places_wanted(self.small.len(), self.small_misses, MOST_SMALL);
         if places > self.small.len()
             && let Ok(small) = vec![in alloc; NO_WORD; places]
         {
@@ -350,7 +356,8 @@ pub(crate) fn slot_of(execution: u32, candidates: [Part; 4], places: usize) -> u
     mixed(joined) as usize & places.saturating_sub(1)
 }
 
-/// Sixteen bits that tell words apart: a product's high bits hang on all of it. Of 0 they are 0.
+/// As many bits as tell [`MOST_SMALL`] places apart: a product's high bits hang on all of it. Of 0
+/// they are 0.
 fn mixed(word: u64) -> u64 {
-    (word ^ word >> 32).wrapping_mul(0x9e37_79b9_7f4a_7c15) >> 48
+    (word ^ word >> 32).wrapping_mul(0x9e37_79b9_7f4a_7c15) >> 46
 }

@@ -4,7 +4,7 @@ ghost use Rattle.std.specs.Prelude.{◌≡◌, ◌≢◌, ◌<◌, ◌%◌, ℕ,
 ghost use Rattle.std.specs.Bool.{OnFalse, OnTrue};
 ghost use Rattle.wf_lane.specs.Table.{AreFirstParts, HasSupported};
 ghost use Rattle.wf_network.specs.Problems.{IsNetwork, IsWide, KeepsProcesses, constraints_in, rule_at};
-ghost use Rattle.wf_network.specs.Revising.{AreBeyond, AreKnown, AreWide, answers_in, found_at, left_of, nibbles_in, parts_in, wide_set, widened};
+ghost use Rattle.wf_network.specs.Revising.{AreKnown, AreWide, answers_in, found_at, left_of, nibbles_in, parts_in, wide_set, widened};
 
 use crate::memo::{
     Memo, Revised, RevisedNibbles, RevisedParts, RevisedWord, slot_of, slot_of_nibbles,
@@ -38,14 +38,14 @@ pub fn candidates_at(execution: PackedExecution, sets: &[Mask]) -> [Mask; 4]
     ]
 }
 
-/// These sets in sixteen bits, four each, the first one lowest, where each value is below 4; none
+/// These parts in sixteen bits, four each, the first one lowest, where each value is below 4; none
 /// where one is not.
 #[inline]
-pub fn in_nibbles(sets: [Mask; 4]) -> Option<u16>
-    ensures sets { IfSome result (λ nibbles. widened (nibbles_in nibbles) ≡ sets) }
-    ensures none { IfNone result (AreBeyond TINY_LIMIT sets) }
+pub fn in_nibbles(parts: [Part; 4]) -> Option<u16>
+    requires { length parts ≡ 4 }
+    ensures parts { IfSome result (λ nibbles. nibbles_in nibbles ≡ parts) }
+    ensures none { IfNone result (All (λ part. part < TINY_LIMIT) parts → ⊥) }
 {
-    let parts = narrowed(sets)?;
     if are_below(TINY_LIMIT, parts) {
         Some(nibbles_of(parts))
     } else {
@@ -53,14 +53,14 @@ pub fn in_nibbles(sets: [Mask; 4]) -> Option<u16>
     }
 }
 
-/// These sets in one word, 16 bits each, the first one lowest, where each value is below 16; none
+/// These parts in one word, 16 bits each, the first one lowest, where each value is below 16; none
 /// where one is not.
 #[inline]
-pub fn in_word(sets: [Mask; 4]) -> Option<u64>
-    ensures sets { IfSome result (λ word. widened (parts_in word) ≡ sets) }
-    ensures none { IfNone result (AreBeyond SMALL_LIMIT sets) }
+pub fn in_word(parts: [Part; 4]) -> Option<u64>
+    requires { length parts ≡ 4 }
+    ensures parts { IfSome result (λ word. parts_in word ≡ parts) }
+    ensures none { IfNone result (All (λ part. part < SMALL_LIMIT) parts → ⊥) }
 {
-    let parts = narrowed(sets)?;
     if are_below(SMALL_LIMIT, parts) {
         Some(word_of(parts))
     } else {

@@ -1,8 +1,9 @@
 //! What is asked about a problem, and what a search of a box finds.
 
-ghost use Rattle.std.specs.Prelude.{ℕ, IfOk, OnOk};
+ghost use Rattle.std.specs.Prelude.{IfOk, OnOk};
 ghost use Rattle.wf_box.specs.Boxes.{IsFor, ServeFor};
 ghost use Rattle.wf_search.specs.Found.{OnStopped};
+ghost use Rattle.wf_pool.specs.Turns.{AskedWithin};
 ghost use Rattle.wf_pool.specs.Work.{IsFoundIn};
 
 use crate::answer::KeptLines;
@@ -33,7 +34,8 @@ pub(crate) fn search_box<S: Stop>(
     requires answers { ServeFor inquiry.problem.now answers.old }
     ensures found { let q = inquiry.entry in
         IfOk result (IsFoundIn q.problem.now q.kept boxed.sets) }
-    ensures asked { OnOk result ((n : ℕ) × S.asked n stop.old stop.new) }
+    ensures asked { let q = inquiry.entry in OnOk result
+        (AskedWithin q.problem.now boxed.sets (λ n. S.asked n stop.old stop.new)) }
     ensures stopped { IfOk result (OnStopped (S.is_stopped stop.new)) }
     ensures answers { ServeFor inquiry.entry.problem.now answers.new }
 {

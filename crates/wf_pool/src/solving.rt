@@ -12,6 +12,7 @@ ghost use Rattle.wf_pool.specs.Work.{AreAllBut, AreAllSettled, AreToSettle, AreW
 ghost use Rattle.wf_pool.specs.Sites.{AreWorkersOf, IsWorkerOf};
 ghost use Rattle.wf_pool.specs.Together.{Tells};
 ghost use Rattle.wf_pool.specs.Answers.{IsAnswer, IsAnswerAt, HasAccount, HasBranchAnswer, IsInOrder};
+ghost use Rattle.wf_pool.specs.Turns.{AskedWithin, TakesMore};
 
 use crate::answer::{AllFinds, Answer, BranchAnswer, KeptLines, apart, in_order, map_of};
 use crate::crew::{CrewMembers, crew};
@@ -146,17 +147,19 @@ pub fn solve_root(alloc: Global, problem: &Problem, kept: KeptLines) -> Result<A
 }
 
 /// The answer of [`solve_root`], if its search takes so many turns at most, and else none: the
-/// search is dropped then. It starts no thread, and returns. Refused out of memory alone.
+/// search is dropped then. A turn closes one box. It starts no thread, and returns. Refused out of
+/// memory alone.
 pub fn solve_within(
     alloc: Global,
     problem: &Problem,
     kept: KeptLines,
     turns: u32,
 ) -> Result<Option<Answer>, AllocError>
-    ensures { IfOk result (λ found. IfSome found (IsAnswer problem.now kept)) }
+    ensures answer { IfOk result (λ found. IfSome found (IsAnswer problem.now kept)) }
+    ensures none { IfOk result (λ found. IfNone found (TakesMore problem.now turns)) }
 {
     let inquiry = Inquiry { problem, kept };
-    let mut limit = TurnLimit { left: turns };
+    let mut limit = TurnLimit::of(turns);
     search_root(alloc, inquiry, &mut limit)
 }
 
@@ -168,6 +171,8 @@ fn search_root<S: Stop>(
 ) -> Result<Option<Answer>, AllocError>
     ensures answer { let q = inquiry.entry in
         IfOk result (λ found. IfSome found (IsAnswer q.problem.now q.kept)) }
+    ensures asked { let p = inquiry.entry.problem.now in OnOk result
+        (AskedWithin p (root p) (λ n. S.asked n stop.old stop.new)) }
     ensures stopped { IfOk result (λ found. IfNone found (S.is_stopped stop.new)) }
 {
     let root = Box0::root(alloc, inquiry.problem)?;

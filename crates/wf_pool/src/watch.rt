@@ -1,6 +1,6 @@
 //! A worker at a branch: it takes a turn only where it sees no lower branch posted.
 
-ghost use Rattle.std.specs.Prelude.{◌≡◌, ◌-◌, ◌<◌, IfOk};
+ghost use Rattle.std.specs.Prelude.{◌≡◌, ◌+◌, ◌-◌, ◌<◌, IfOk};
 ghost use Rattle.wf_pool.specs.Work.{HasLooked, HasSettled, IsToSettle};
 ghost use Rattle.wf_pool.specs.Sites.{IsWorkerOf};
 ghost use Rattle.wf_pool.specs.Looking.{looked_itself, looked_on};
@@ -72,10 +72,22 @@ impl<'a, G: Gate> Stop for TellingStop<'a, G> {
     ghost asked_on = { λ m n s t u first second. first ∙ second };
 }
 
-/// A search that may take so many turns more: it stops where none is left.
+/// A search that may be asked so many times more before it is to stop, which it is where none is
+/// left.
 #[derive(Drop)]
 pub(crate) struct TurnLimit {
-    pub(crate) left: u32,
+    left: u64,
+}
+
+impl TurnLimit {
+    /// The limit of a search that may take so many turns.
+    pub(crate) fn of(turns: u32) -> TurnLimit
+        ensures { result.left ≡ turns + 1 }
+    {
+        TurnLimit {
+            left: u64::from(turns) + 1,
+        }
+    }
 }
 
 impl Stop for TurnLimit {
@@ -84,11 +96,8 @@ impl Stop for TurnLimit {
     ghost is_stopped = { λ s. s.left ≡ 0 };
 
     fn stop(&mut self) -> bool {
-        if self.left == 0 {
-            return true;
-        }
-        self.left -= 1;
-        false
+        self.left = self.left.saturating_sub(1);
+        self.left == 0
     }
 
     ghost use Rattle.wf_pool.specs.Turns.{left_itself, left_on};

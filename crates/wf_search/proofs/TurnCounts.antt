@@ -6,7 +6,7 @@ use Rattle.wf_model.specs.Box.{Box, candidates, count, first_empty, without}
 use Rattle.wf_model.specs.Refutation as refutation
 use Rattle.wf_model.specs.Closing.{Loss, Step, closing, closing_at, continued, lost, sweep, sweep_from, sweeps, take_out, take_out_each, taken_out, unless_none, Trace}
 use Rattle.wf_search.specs.declared.searching.Found.{Found}
-use Rattle.wf_search.specs.Found.{AskedAtAll, HasAsked, turns}
+use Rattle.wf_search.specs.Found.{AskedInTurns, HasAsked, turns}
 use Rattle.wf_search.specs.FoundMap.{HasAskedForMap}
 use Rattle.wf_search.specs.declared.maps.FoundMap.{FoundMap}
 
@@ -73,10 +73,10 @@ pub turns_more : (ls added : List refutation.Line) → turns added ≡ 1 → tur
 turns_more ls added one = omega (arith, turns_append ls added, one)
 
 -- where memory ran out, it had asked
-pub failed : {E : Type 0} (Asked : ℕ → Type 0) (result : Result Found E) → IsErr result → AskedAtAll Asked → HasAsked Asked result
-failed Asked (Ok found) is asked = absurd (false≢true is)
-failed Asked (Err e) is asked = asked
+pub failed : {E : Type 0} (t : Trace) (Asked : ℕ → Type 0) (result : Result Found E) → IsErr result → AskedInTurns t Asked → HasAsked t Asked result
+failed t Asked (Ok found) is asked = absurd (false≢true is)
+failed t Asked (Err e) is asked = asked
 
-pub failed_map : {E : Type 0} (t : Trace) (Asked : ℕ → Type 0) (result : Result FoundMap E) → IsErr result → AskedAtAll Asked → HasAskedForMap t Asked result
+pub failed_map : {E : Type 0} (t : Trace) (Asked : ℕ → Type 0) (result : Result FoundMap E) → IsErr result → AskedInTurns t Asked → HasAskedForMap t Asked result
 failed_map t Asked (Ok found) is asked = absurd (false≢true is)
 failed_map t Asked (Err e) is asked = asked

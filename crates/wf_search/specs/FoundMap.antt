@@ -4,7 +4,7 @@ use Rattle.wf_model.specs.Problem.{IsSolution, Problem}
 use Rattle.wf_model.specs.Box.{Box, LiesIn}
 use Rattle.wf_model.specs.Closing.{Trace}
 use Rattle.wf_model.specs.Laws.{IsLeastIn}
-use Rattle.wf_search.specs.Found.{AskedAtAll, turns}
+use Rattle.wf_search.specs.Found.{AskedInTurns, turns}
 use Rattle.wf_search.specs.declared.maps.FoundMap.{FoundMap}
 use Rattle.wf_search.specs.declared.maps.FoundMap.TheVariants.{Map, Nothing, Stopped}
 
@@ -29,8 +29,8 @@ IsRightMap p box Stopped = Unit {0}
 abbrev pub HasAskedForMap : {E : Type 0} → Trace → (ℕ → Type 0) → Result FoundMap E → Type 0
 HasAskedForMap t Asked (Ok (Map values)) = Asked (turns t.lines)
 HasAskedForMap t Asked (Ok Nothing) = Asked (turns t.lines)
-HasAskedForMap t Asked (Ok Stopped) = AskedAtAll Asked
-HasAskedForMap t Asked (Err e) = AskedAtAll Asked
+HasAskedForMap t Asked (Ok Stopped) = AskedInTurns t Asked
+HasAskedForMap t Asked (Err e) = AskedInTurns t Asked
 
 -- this holds, if the search was stopped
 abbrev pub OnMapStopped : Type 0 → FoundMap → Type 0

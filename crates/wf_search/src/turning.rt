@@ -1,6 +1,7 @@
 //! A turn of a search.
 
 ghost use Rattle.std.specs.Prelude.{◌≡◌, IfOk};
+ghost use Rattle.wf_search.specs.Pending.{HasFirst};
 ghost use Rattle.wf_search.specs.Turning.{AreBoxesOf, IsTurn};
 
 use crate::pending::Pending;
@@ -30,6 +31,7 @@ pub(crate) fn take_turn(
     ensures turn { let p = pending.old.problem in
         IfOk result (IsTurn p pending.old.boxes pending.new.boxes lines.old.items lines.new.items) }
     ensures problem { pending.new.problem ≡ pending.old.problem }
+    ensures first { HasFirst pending.new.boxes }
 {
     match pending.close(alloc, lines)? {
         Closed::Empty(_) => {

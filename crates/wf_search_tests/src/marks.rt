@@ -29,18 +29,18 @@ fn sets_below_64_are_words(rt: HostRuntime) {
 /// In hexadecimal each digit has the set of one place, the first one last.
 #[test]
 fn small_sets_share_a_word(rt: HostRuntime) {
-    let low = [[8, 0, 0, 0], [2, 0, 0, 0], [15, 0, 0, 0], [0; 4]];
+    let low = [8, 2, 15, 0];
     assert_eq!(rt;
         (in_nibbles(low), in_word(low)),
         (Some(0xf28), Some(0xf_0002_0008))
     );
     let parts = (unpacked_nibbles(0xf28), unpacked(0xf_0002_0008));
     assert_eq!(rt; parts, ([8, 2, 15, 0], [8, 2, 15, 0]));
-    let more = [[8, 0, 0, 0], [16, 0, 0, 0], [15, 0, 0, 0], [0; 4]];
+    let more = [8, 16, 15, 0];
     assert_eq!(rt;
         (in_nibbles(more), in_word(more)),
         (None, Some(0xf_0010_0008))
     );
-    let most = [[8, 0, 0, 0], [65_536, 0, 0, 0], [15, 0, 0, 0], [0; 4]];
+    let most = [8, 65_536, 15, 0];
     assert_eq!(rt; in_word(most), None);
 }

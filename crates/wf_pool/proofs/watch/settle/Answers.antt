@@ -8,7 +8,7 @@ pub returns-clause-worker : goal.returns-clause-worker
 returns-clause-worker g c =
     let site = c.args.site.now in
     let w = c.in_ok-settled.ensures in
-    let look = c.in_ok-found.ensures.asked.1.1 in (
+    let look = c.in_ok-found.ensures.asked.2.1 in (
       w.seat,
       w.honest site.inquiry.problem.now site.inquiry.kept
           (looked_honest site.inquiry.problem.now site.inquiry.kept c.args.me.seat _ c.args.me.finds look c.requires.me.1)

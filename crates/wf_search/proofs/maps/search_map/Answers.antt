@@ -1,12 +1,12 @@
-use Rattle.std.proofs.Common.{◌≡◌, ◌+◌, ◌++◌, ◌∙◌, None, Some, [], ◌∷◌, sym, ap, subst, arith}
+use Rattle.std.proofs.Common.{◌≡◌, ◌+◌, ◌++◌, ◌∙◌, None, Some, [], ◌∷◌, refl, sym, ap, subst, arith}
 use Rattle.wf_model.specs.Closing.{Trace, canonical}
 use Rattle.wf_model.proofs.Lemmas.{canonical_none_refutes, canonical_least, none_refutes}
 use Rattle.wf_box.specs.Boxes.{Tracked}
-use Rattle.wf_search.specs.Pending.{Boxes}
+use Rattle.wf_search.specs.Pending.{Boxes, HasFirst}
 use Rattle.wf_search.specs.Found.{turns}
 use Rattle.wf_search.specs.Turning.{AreBoxesOf}
 use Rattle.wf_search.proofs.TurnCounts.{failed_map, turns_more}
-use Rattle.wf_search.proofs.SearchLemmas.{at_first, ends_after, less_to_find, searched_on, turn_of}
+use Rattle.wf_search.proofs.SearchLemmas.{at_first, ends_after, less_to_find, one_more, searched_on, turn_of}
 use Rattle.wf_search.proofs.maps.search_map.Goals as goal
 
 pub turns-init : goal.turns-init
@@ -18,6 +18,7 @@ turns-init g c =
       asked = g.met.S.Stop.unasked _;
       problem = ap (λ (b : Boxes). b.problem) c.of-pending.ensures;
       boxes = subst (AreBoxesOf p) (sym is) (c.requires.boxed.is_box, tt);
+      first = subst HasFirst (sym is) refl;
       answers = c.swap_answers.ensures.serve p c.requires.boxed;
       search = at_first p c.of-pending.result.boxes c.args.boxed.sets is;
     }
@@ -26,10 +27,21 @@ pub take_turn-requires : goal.take_turn-requires
 take_turn-requires g c = subst (λ q. AreBoxesOf q c.turns.pending.boxes) (sym c.turns.invariant.problem) c.turns.invariant.boxes
 
 pub returns-then-stop-clause-asked : goal.returns-then-stop-clause-asked
-returns-then-stop-clause-asked g c = (turns c.turns.invariant.written + 1, omega arith, g.met.S.Stop.asked_on _ _ _ _ _ c.turns.invariant.asked c.stop.ensures.asked)
+returns-then-stop-clause-asked g c = (
+  turns c.turns.invariant.written + 1,
+  omega arith,
+  one_more c.args.problem.now c.turns.pending.boxes c.turns.invariant.written _ c.turns.invariant.first c.turns.invariant.search,
+  g.met.S.Stop.asked_on _ _ _ _ _ c.turns.invariant.asked c.stop.ensures.asked,
+)
 
 pub returns-in_err-take_turn-clause-asked : goal.returns-in_err-take_turn-clause-asked
-returns-in_err-take_turn-clause-asked g c = failed_map (canonical c.args.problem.now c.args.boxed.sets) (λ n. g.S.Stop.asked n c.args.stop.now c.stop.new.self) c.from_residual.result c.from_residual.ensures.0 (turns c.turns.invariant.written + 1, omega arith, g.met.S.Stop.asked_on _ _ _ _ _ c.turns.invariant.asked c.stop.ensures.asked)
+returns-in_err-take_turn-clause-asked g c =
+    failed_map (canonical c.args.problem.now c.args.boxed.sets) (λ n. g.S.Stop.asked n c.args.stop.now c.stop.new.self) c.from_residual.result c.from_residual.ensures.0 (
+      turns c.turns.invariant.written + 1,
+      omega arith,
+      one_more c.args.problem.now c.turns.pending.boxes c.turns.invariant.written _ c.turns.invariant.first c.turns.invariant.search,
+      g.met.S.Stop.asked_on _ _ _ _ _ c.turns.invariant.asked c.stop.ensures.asked,
+    )
 
 pub turns-preserved : goal.turns-preserved
 turns-preserved g c =
@@ -40,6 +52,7 @@ turns-preserved g c =
       asked = subst (λ n. g.S.Stop.asked n c.args.stop.now c.stop.new.self) (sym (turns_more c.turns.invariant.written is.added is.one)) (g.met.S.Stop.asked_on _ _ _ _ _ c.turns.invariant.asked c.stop.ensures.asked);
       problem = c.take_turn.ensures.problem ∙ c.turns.invariant.problem;
       boxes = is.boxes_left;
+      first = c.take_turn.ensures.first;
       answers = c.turns.invariant.answers;
       search = searched_on p _ _ _ _ _ is c.turns.invariant.written _ c.turns.invariant.search;
     }

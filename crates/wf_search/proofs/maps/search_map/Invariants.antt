@@ -3,6 +3,7 @@ use Rattle.wf_model.specs.Refutation as refutation
 use Rattle.wf_model.specs.Closing.{before, canonical, in_turn}
 use Rattle.wf_box.specs.Boxes.{ServeFor}
 use Rattle.wf_search.specs.Found.{turns}
+use Rattle.wf_search.specs.Pending.{HasFirst}
 use Rattle.wf_search.specs.Turning.{AreBoxesOf}
 use Rattle.wf_search.proofs.maps.search_map.Given as goal
 
@@ -14,6 +15,7 @@ invariant-turns g l =
       asked : g.S.Stop.asked (turns written) l.initial.stop l.stop;
       problem : l.pending.problem ≡ l.problem;
       boxes : AreBoxesOf l.problem l.pending.boxes;
+      first : HasFirst l.pending.boxes;
       answers : ServeFor l.problem l.answers;
       search : before written None (in_turn (canonical l.problem) l.pending.boxes) ≡ canonical l.problem l.fn.boxed.sets;
     }
