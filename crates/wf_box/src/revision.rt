@@ -17,6 +17,7 @@ use wf_lines::Lines;
 use wf_network::{
     Marks, Network, candidates_at, in_nibbles, in_word, narrowed, supported_narrow, supported_sets,
 };
+use wf_set::Mask;
 use wf_set::part::Part;
 
 /// An execution and its rule, each by its number.
@@ -51,13 +52,13 @@ pub(crate) fn revise(
     let rule = execution.simplex;
     let at = ExecutionRule { number, rule };
     let Some(parts) = narrowed(found) else {
-        return revise_wide(number, network, workspace, lines);
+        return revise_large(number, network, workspace, lines);
     };
     match in_nibbles(parts) {
         Some(nibbles) => revise_packed(at, nibbles, network, workspace, lines),
         None => match in_word(parts) {
             Some(word) => revise_packed(at, word, network, workspace, lines),
-            None => revise_parts(at, parts, network, workspace, lines),
+            None => revise_large(number, network, workspace, lines),
         },
     }
 }
@@ -112,8 +113,30 @@ fn take_packed<P: Packed>(
     take_lost(number, judged, network, workspace, lines)
 }
 
-/// Takes out of an execution what its rule does not support, if all candidates are below 64.
+/// Takes out of an execution what its rule does not support, if some candidate is 16 or more. It
+/// looks the candidates up again, so that the loop over executions keeps none of them in memory.
 #[inline(never)]
+fn revise_large(
+    number: u32,
+    network: &Network,
+    workspace: &mut Workspace,
+    lines: &mut Lines,
+) -> Option<u32>
+    requires { IsRevising network.now number lines.old workspace.old }
+    ensures { Revises network.now number
+        lines.old workspace.old lines.new workspace.new result }
+{
+    let execution = network.execution(number as usize);
+    let rule = execution.simplex;
+    let found = candidates_at(execution, &workspace.tracked.words);
+    let at = ExecutionRule { number, rule };
+    match narrowed(found) {
+        Some(parts) => revise_parts(at, parts, network, workspace, lines),
+        None => revise_sets(at, found, network, workspace, lines),
+    }
+}
+
+/// Takes out of an execution what its rule does not support, if all candidates are below 64.
 fn revise_parts(
     at: ExecutionRule,
     found: [Part; 4],
@@ -136,25 +159,24 @@ fn revise_parts(
     take_lost(at.number, judged, network, workspace, lines)
 }
 
-/// Takes out of an execution what its rule does not support, by its points' candidates as sets. It
-/// looks them up itself, so that the loop over executions keeps no sets in memory.
-#[inline(never)]
-fn revise_wide(
-    number: u32,
+/// Takes out of an execution what its rule does not support, if some candidate is 64 or more.
+fn revise_sets(
+    at: ExecutionRule,
+    found: [Mask; 4],
     network: &Network,
     workspace: &mut Workspace,
     lines: &mut Lines,
 ) -> Option<u32>
-    requires { IsRevising network.now number lines.old workspace.old }
-    ensures { Revises network.now number
+    requires revising { IsRevising network.now at.number lines.old workspace.old }
+    requires rule { at.rule ≡ rule_number network.now at.number }
+    requires long { length found ≡ 4 }
+    requires found { found ≡ found_in network.now at.number workspace.old.tracked.words.items }
+    ensures { Revises network.now at.number
         lines.old workspace.old lines.new workspace.new result }
 {
-    let execution = network.execution(number as usize);
-    let rule = execution.simplex;
-    let found = candidates_at(execution, &workspace.tracked.words);
-    let supported = supported_sets(rule, found, network, &mut workspace.memo);
+    let supported = supported_sets(at.rule, found, network, &mut workspace.memo);
     let judged = Judgement { found, supported };
-    take_lost(number, judged, network, workspace, lines)
+    take_lost(at.number, judged, network, workspace, lines)
 }
 
 /// Takes out of an execution the candidates that are not supported, place by place, and takes its
