@@ -28,7 +28,7 @@ static Set spread(u64 bits, Set mask) {
 // A thread has one of its own, over all the boxes that it searches.
 class Caches {
     static constexpr u32 most_bits = 16, unknown = ~0u;
-    static constexpr size_t first_size = 64, most_size = 1 << 18;
+    static constexpr size_t first_size = 64, most_size = 1 << 17;
     struct Small { u32 bits = 0, shifts[4] = {}; std::vector<u32> answers; };
     struct Known { u32 rule = unknown; Set candidates[4] = {}, supported[4] = {}; };
 
@@ -60,7 +60,7 @@ class Caches {
         return memo[hash >> 20 & (memo.size() - 1)];
     }
     void grow() {
-        std::vector<Known> old(memo.empty() ? first_size : 4 * memo.size());
+        std::vector<Known> old(memo.empty() ? first_size : std::min(4 * memo.size(), most_size));
         old.swap(memo);
         misses = 0;
         for (const Known& known : old)

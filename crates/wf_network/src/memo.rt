@@ -20,10 +20,11 @@ const MOST_NARROW: usize = 65536;
 
 /// How many there are at most for candidates below 16 of which one is 4 or more. Few values leave
 /// few such answers; many values leave more than there are places, and each costs a walk over the
-/// rule's tuples.
-const MOST_SMALL: usize = 262_144;
+/// rule's tuples. With twice as many places, small questions would take longer with several
+/// workers, since each worker has places of its own.
+const MOST_SMALL: usize = 131_072;
 
-/// The places become so many times as many.
+/// The places become so many times as many, or as many as there may be.
 const GROWTH: usize = 4;
 
 /// What the rule of an execution supports at each place for some candidates.
@@ -310,7 +311,7 @@ fn places_wanted(places: usize, misses: u32, most: usize) -> usize {
     if places < FEWEST {
         FEWEST
     } else if places < most && misses as usize > places / 4 {
-        GROWTH * places
+        (GROWTH * places).min(most)
     } else {
         places
     }
@@ -359,5 +360,5 @@ pub(crate) fn slot_of(execution: u32, candidates: [Part; 4], places: usize) -> u
 /// As many bits as tell [`MOST_SMALL`] places apart: a product's high bits hang on all of it. Of 0
 /// they are 0.
 fn mixed(word: u64) -> u64 {
-    (word ^ word >> 32).wrapping_mul(0x9e37_79b9_7f4a_7c15) >> 46
+    (word ^ word >> 32).wrapping_mul(0x9e37_79b9_7f4a_7c15) >> 47
 }

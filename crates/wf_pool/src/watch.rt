@@ -72,8 +72,7 @@ impl<'a, G: Gate> Stop for TellingStop<'a, G> {
     ghost asked_on = { λ m n s t u first second. first ∙ second };
 }
 
-/// A search that may be asked so many times more before it is to stop, which it is where none is
-/// left.
+/// Counts down the questions of a search, and stops the search when none is left.
 #[derive(Drop)]
 pub(crate) struct TurnLimit {
     left: u64,
