@@ -1,8 +1,8 @@
 #!/usr/bin/env python3
 """The definitions on which some definitions rest, which a reader has to believe to believe these.
 
-    checks/believed.py wf_engine Headline AnswersAreTrue      how many definitions and lines, crate by crate
-    checks/believed.py --list wf_engine Texts Solves          their names too
+    checks/believed.py wf_run_solve Headline AnswersAreTrue      how many definitions and lines, crate by crate
+    checks/believed.py --list wf_run_solve Texts Solves          their names too
 
 It goes through specs/*.antt by the names that each definition uses, as the imports of its file say whose they are. What the
 compiler writes for types of the code (`specs.declared`) and what the kit has is counted apart, by names.

@@ -2,7 +2,7 @@
 """argument.py TASK REPORT: a report of none as an argument that a person can read, as `wfcheck explain` writes it. REPORT may also
 be the text of an obstruction.
 
-It is written from the definitions in crates/wf_argument/specs, crates/wf_argument_words/specs and crates/wf_tree_words/specs,
+It is written from the definitions in crates/wf_report_explain/specs/Argument, crates/wf_report_explain/specs/Words and crates/wf_tree_explain/specs,
 and shares no code with the program. It takes the report as it is: `second_opinion.py` says whether it holds."""
 import collections
 import itertools

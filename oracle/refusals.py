@@ -1,6 +1,6 @@
-"""What `wfcheck` tells of a refusal, byte for byte: its line and the notes below it, as crates/wf_service/specs/Notes.antt has them.
+"""What `wfcheck` tells of a refusal, byte for byte: its line and the notes below it, as crates/wf_cli/specs/Service/Notes.antt has them.
 
-It shares nothing with the program. Beside words that are not taken it is the usual line, by crates/wf_args/specs/Usage.antt."""
+It shares nothing with the program. Beside words that are not taken it is the usual line, by crates/wf_cli_args/specs/Usage.antt."""
 import re
 
 LINT = "`wfcheck-lint FILE` (in the repository tools/lint.py) says in words why a file is no task"

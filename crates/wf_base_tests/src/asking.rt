@@ -1,4 +1,4 @@
-//! Tasks on their protocol complexes.
+//! Reads tasks and builds their protocol complexes, for tests.
 
 ghost use Rattle.std.specs.Prelude.{IfOk};
 ghost use Rattle.wf_complex.specs.Protocol.{IsProtocol};
@@ -8,7 +8,7 @@ use std::test::Fail;
 use wf_complex::Protocol;
 use wf_task::Task;
 
-/// The task of a text, and its complex after some rounds.
+/// Reads the task of `text` and builds its protocol complex after `rounds` rounds.
 pub(crate) fn joined(alloc: Global, text: &str, rounds: u32) -> Result<(Task, Protocol), Fail>
     ensures { IfOk result (λ r. IsProtocol r.0 r.1.rounds r.1) }
 {

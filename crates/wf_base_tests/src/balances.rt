@@ -1,17 +1,17 @@
-//! Tests of balances: their checker.
+//! Tests of the checker of balances.
 
 ghost use Rattle.std.specs.Prelude.{◌≤◌, length};
 
 use std::alloc::{AllocError, Global};
 use std::test::Fail;
-use wf_balance::{
+use wf_examples::CONSENSUS_2;
+use wf_task::Task;
+use wf_tree_refine::first_rows;
+use wf_tree_steps::balance::{
     Balance, BalanceFault, Multiplier, Others, is_balance, no_fault_exactly_if_balance,
 };
-use wf_examples::CONSENSUS_2;
-use wf_refine::first_rows;
-use wf_task::Task;
 
-/// Weak symmetry breaking of three processes.
+/// Weak symmetry breaking of three processes, as in `gallery/tasks/symmetry-breaking-3.json`.
 const BREAKING: &str = concat!(
     r#"{"delta":["#,
     r#"{"in":[[0,0]],"out":[[0],[1]]},{"in":[[1,0]],"out":[[0],[1]]},{"in":[[2,0]],"out":[[0],[1]]},"#,
@@ -25,7 +25,8 @@ const BREAKING: &str = concat!(
     r#""processes":3,"symmetric":true,"version":1}"#
 );
 
-/// A multiplier of the equation of a simplex, a place and the others' values.
+/// Creates a multiplier: that of the equation of `simplex`, of the participant at `place` and of
+/// the values `others` of the other participants.
 fn weighted(simplex: u32, place: u8, others: &[u8], weight: u32) -> Multiplier
     requires { length others.now ≤ 3 }
 {
@@ -37,8 +38,9 @@ fn weighted(simplex: u32, place: u8, others: &[u8], weight: u32) -> Multiplier
     }
 }
 
-/// The process with input 0 decides 0 alone, and each decides 0 as often with the other as alone.
-/// Behind these stands one more.
+/// Creates a balance for consensus of two processes, with `modulus`, `sum` and three multipliers,
+/// the last of which is `last`. The first equation says that process 0 alone has one execution, and
+/// the second that process 1 decides 0 as often with process 0 as without it.
 fn one_decides_0(
     alloc: Global,
     modulus: u32,
@@ -53,7 +55,10 @@ fn one_decides_0(
     })
 }
 
-/// Those of low ranks decide 0, and the others 1; the middle one of three counts so often.
+/// Creates a balance modulo 3 for [`BREAKING`]. In each equation on two or three processes the
+/// other participants decide 0 if their rank is lower than that of the participant at the
+/// multiplier's place, and 1 if it is higher. `middle` is the weight for the middle one of three
+/// processes.
 fn three_bits(alloc: Global, middle: u32) -> Result<Balance, AllocError> {
     let multipliers = vec![in alloc;
         weighted(0, 0, &[], 1),
@@ -70,14 +75,14 @@ fn three_bits(alloc: Global, middle: u32) -> Result<Balance, AllocError> {
     })
 }
 
-/// What the checker says of a balance of the task of a text.
+/// Returns the checker's verdict on `balance` for the task of `text`.
 fn judged(alloc: Global, text: &str, balance: &Balance) -> Result<Result<(), BalanceFault>, Fail> {
     let task = Task::read_text(alloc, text.as_bytes())?;
     let rows = first_rows(alloc, &task)?;
     Ok(is_balance(alloc, &task, &rows, balance))
 }
 
-/// What the checker says of consensus, where this is the last multiplier.
+/// Returns the checker's verdict on the balance for consensus that [`one_decides_0`] creates.
 fn judged_with(
     alloc: Global,
     modulus: u32,
@@ -88,6 +93,8 @@ fn judged_with(
     judged(alloc, CONSENSUS_2, &balance)
 }
 
+/// Checks that consensus has a balance modulo 2, and that another modulus or another sum is
+/// refused.
 #[test]
 fn consensus_has_a_balance(rt: HostRuntime) -> Result<(), Fail> {
     let alloc = rt.alloc();
@@ -108,6 +115,8 @@ fn consensus_has_a_balance(rt: HostRuntime) -> Result<(), Fail> {
     Ok(())
 }
 
+/// Checks that weak symmetry breaking has a balance modulo 3, and that another weight leaves a
+/// tuple that doesn't count 0.
 #[test]
 fn symmetry_breaking_has_a_balance_modulo_3(rt: HostRuntime) -> Result<(), Fail> {
     let alloc = rt.alloc();
@@ -118,6 +127,8 @@ fn symmetry_breaking_has_a_balance_modulo_3(rt: HostRuntime) -> Result<(), Fail>
     Ok(())
 }
 
+/// Checks the faults of a multiplier that doesn't fit its simplex. The simplex is judged before the
+/// place, the number of other values and the weight, in this order.
 #[test]
 fn a_multiplier_fits_its_simplex(rt: HostRuntime) -> Result<(), Fail> {
     let alloc = rt.alloc();

@@ -1,29 +1,30 @@
-//! Tests of the question of a branch, with lemmas that are worked out by hand.
+//! Tests of proofs about the question of a branch, with lemmas that were worked out by hand.
 //!
-//! Renaming of two processes to three names after a round has three points.
-//! Each two of them are together in an execution, and may not have the same
-//! name there. Point v has the variables 3 * v + 1 to 3 * v + 3.
+//! Renaming of two processes to three names has three points after one round. Any two of them are
+//! in an execution together, where they may not have the same name. Point v has the variables 3 * v
+//! + 1 to 3 * v + 3.
 
 ghost use Rattle.wf_complex.specs.Protocol.{IsProtocol};
 
 use crate::asking::joined;
 use std::alloc::{AllocError, Global};
 use std::test::Fail;
-use wf_cnf::pose_branch;
+use wf_base::set::Mask;
 use wf_complex::Protocol;
 use wf_examples::RENAMING_2_3;
-use wf_rup::{Checker, Proof};
-use wf_set::Mask;
+use wf_sat_check::rup::{Checker, Proof};
+use wf_sat_cnf::pose_branch;
 use wf_task::Task;
 
-/// The values 0 and 1.
+/// The set of the values 0 and 1.
 const BOTH: Mask = [0b11, 0, 0, 0];
 
-/// The values 0, 1 and 2.
+/// The set of the values 0, 1 and 2.
 const ALL: Mask = [0b111, 0, 0, 0];
 
-/// Branches of renaming after a round, lemmas, and whether they refute it. The first branch has no
-/// map, which takes a lemma to say; the second has one; in the last a point has no value.
+/// Branches of renaming after one round, lemmas, and whether the lemmas refute the branch. The
+/// branch with two names at each point has no map, which takes a lemma to show. That with three
+/// names at the last point has one. In the last branch a point has no candidate.
 static POSED: [([Mask; 3], &str, bool); 6] = [
     ([BOTH, BOTH, BOTH], "", false),
     ([BOTH, BOTH, BOTH], "-1 0\n", true),
@@ -33,8 +34,8 @@ static POSED: [([Mask; 3], &str, bool); 6] = [
     ([[1, 0, 0, 0], [0, 0, 0, 0], [0b100, 0, 0, 0]], "", true),
 ];
 
-/// Whether these lemmas refute a task on its complex with these values at its points; none where it
-/// has other points.
+/// Returns whether `lemmas` refute the branch of the task with the candidates `sets`, or `None` if
+/// there are not as many sets as points.
 fn are_refuting(
     alloc: Global,
     task: &Task,
@@ -53,13 +54,14 @@ fn are_refuting(
     Ok(Some(is_read && checker.is_refuted()))
 }
 
-/// Whether the proof refutes the branch of renaming after a round; `None` if there are not as many
-/// sets as points.
+/// Returns whether `lemmas` refute the branch of renaming after one round with the candidates
+/// `sets`, or `None` if there are not as many sets as points.
 fn is_refuted_by(alloc: Global, sets: &[Mask], lemmas: &[u8]) -> Result<Option<bool>, Fail> {
     let (task, protocol) = joined(alloc, RENAMING_2_3, 1)?;
     Ok(are_refuting(alloc, &task, &protocol, sets, lemmas)?)
 }
 
+/// Checks that lemmas refute exactly those branches of [`POSED`] that are marked so.
 #[test]
 fn branches_are_refuted_where_they_have_no_map(rt: HostRuntime) -> Result<(), Fail> {
     for (place, (sets, lemmas, is_refuted)) in POSED.iter().enumerate() {

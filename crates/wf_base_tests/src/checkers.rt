@@ -1,38 +1,39 @@
-//! Tests of the checker's calls.
+//! Tests of the operations of [`Checker`].
 
 use crate::clauses::clause;
 use std::alloc::{AllocError, Global};
 use std::test::Fail;
-use wf_rup::{Checker, Literal};
+use wf_sat_check::rup::{Checker, Literal};
 
-/// What is done with a checker, or asked of it.
+/// An operation on a checker, and the result that it has to have.
 #[derive(Clone, Copy)]
-enum Act {
+enum Operation {
     Add(&'static [i8]),
     Delete(&'static [i8]),
-    /// A clause that is added and deleted 5000 times.
-    ComesAndGoes(&'static [i8]),
-    /// A lemma that follows, or is a resolution asymmetric tautology.
-    Takes(&'static [i8]),
-    /// A lemma that is neither.
+    /// A clause is added and deleted 5000 times.
+    AddAndDelete(&'static [i8]),
+    /// A lemma has to be accepted: it follows, or it is a resolution asymmetric tautology.
+    Accepts(&'static [i8]),
+    /// The checker has to refuse the lemma: it neither follows by unit propagation nor is a
+    /// resolution asymmetric tautology.
     Refuses(&'static [i8]),
     IsRefuted(bool),
 }
 
-use Act::{Add, ComesAndGoes, Delete, IsRefuted, Refuses, Takes};
+use Operation::{Accepts, Add, AddAndDelete, Delete, IsRefuted, Refuses};
 
-/// What is done with checkers on six variables, one act after another.
-static HISTORIES: [(&str, &[Act]); 11] = [
+/// Histories of checkers on six variables. Each has a name and the operations in their order.
+static HISTORIES: [(&str, &[Operation]); 11] = [
     (
         "a lemma that follows is kept",
         &[
             Add(&[1, 2]),
             Add(&[1, -2]),
             Refuses(&[-1]),
-            Takes(&[1]),
+            Accepts(&[1]),
             IsRefuted(false),
             Add(&[-1, 3]),
-            Takes(&[3]),
+            Accepts(&[3]),
             Add(&[-3, -1]),
             IsRefuted(true),
         ],
@@ -42,13 +43,13 @@ static HISTORIES: [(&str, &[Act]); 11] = [
         &[
             Add(&[1, 2]),
             Add(&[-1, 3]),
-            Takes(&[4, -1, -2]),
-            Takes(&[-4, 1]),
-            Takes(&[-4, 2]),
+            Accepts(&[4, -1, -2]),
+            Accepts(&[-4, 1]),
+            Accepts(&[-4, 2]),
             Refuses(&[4]),
             Delete(&[1, -4]),
             Delete(&[2, -4]),
-            Takes(&[4]),
+            Accepts(&[4]),
         ],
     ),
     (
@@ -63,8 +64,8 @@ static HISTORIES: [(&str, &[Act]); 11] = [
             Add(&[-12, 1]),
             Refuses(&[-9, 12]),
             Refuses(&[-1, 10]),
-            Takes(&[9, 20]),
-            Takes(&[1]),
+            Accepts(&[9, 20]),
+            Accepts(&[1]),
             Refuses(&[-1, 12]),
             IsRefuted(false),
         ],
@@ -78,7 +79,7 @@ static HISTORIES: [(&str, &[Act]); 11] = [
             Refuses(&[-1]),
             Refuses(&[-3]),
             Refuses(&[]),
-            Takes(&[3]),
+            Accepts(&[3]),
             Refuses(&[-3, 2]),
         ],
     ),
@@ -89,15 +90,15 @@ static HISTORIES: [(&str, &[Act]); 11] = [
             Add(&[3, 2, 1]),
             Add(&[4, 5, 6]),
             Add(&[-1, 5]),
-            Takes(&[1, 2, 3, 4]),
+            Accepts(&[1, 2, 3, 4]),
             Delete(&[4, 3, 2, 1]),
             Delete(&[2, 3]),
             Delete(&[2, 3, 1, 3]),
-            Takes(&[1, 3, 2]),
+            Accepts(&[1, 3, 2]),
             Delete(&[3, 1, 2]),
             Delete(&[1, 3, 2]),
             Refuses(&[1, 3, 2]),
-            Takes(&[6, 5, 4]),
+            Accepts(&[6, 5, 4]),
         ],
     ),
     (
@@ -106,9 +107,9 @@ static HISTORIES: [(&str, &[Act]); 11] = [
             Add(&[1, 2, 3]),
             Add(&[1, 2, -3]),
             Add(&[-4, 3]),
-            Takes(&[1, 2]),
+            Accepts(&[1, 2]),
             Delete(&[1, 2, 3]),
-            Takes(&[4, 2, 1]),
+            Accepts(&[4, 2, 1]),
             Delete(&[1, 2, 4]),
             Delete(&[2, 1]),
             Refuses(&[4, 2, 1]),
@@ -116,7 +117,7 @@ static HISTORIES: [(&str, &[Act]); 11] = [
     ),
     (
         "a deleted clause of one literal still holds",
-        &[Add(&[1]), Delete(&[1]), Takes(&[1]), Refuses(&[-1, 2])],
+        &[Add(&[1]), Delete(&[1]), Accepts(&[1]), Refuses(&[-1, 2])],
     ),
     (
         "two clauses of one literal each refute",
@@ -136,7 +137,7 @@ static HISTORIES: [(&str, &[Act]); 11] = [
             Add(&[-4, -6]),
             IsRefuted(false),
             Refuses(&[]),
-            Takes(&[-1]),
+            Accepts(&[-1]),
             IsRefuted(true),
         ],
     ),
@@ -145,27 +146,27 @@ static HISTORIES: [(&str, &[Act]); 11] = [
         &[
             Add(&[1, 2]),
             Add(&[1, -2]),
-            ComesAndGoes(&[4, 5, 6]),
+            AddAndDelete(&[4, 5, 6]),
             Refuses(&[-1, 3]),
             Refuses(&[-1, 4, 5]),
-            Takes(&[1]),
+            Accepts(&[1]),
             IsRefuted(false),
         ],
     ),
 ];
 
-impl Act {
-    /// The clause that it is about.
+impl Operation {
+    /// Returns the clause of the operation, which is empty for `IsRefuted`.
     fn row(self) -> &'static [i8] {
         match self {
-            Add(row) | Delete(row) | ComesAndGoes(row) | Takes(row) | Refuses(row) => row,
+            Add(row) | Delete(row) | AddAndDelete(row) | Accepts(row) | Refuses(row) => row,
             IsRefuted(_) => &[],
         }
     }
 }
 
-/// Adds a clause and deletes it, over and over.
-fn come_and_go(
+/// Adds the clause `passing` and deletes it again, 5000 times.
+fn add_and_delete(
     alloc: Global,
     checker: &mut Checker,
     passing: &[Literal],
@@ -177,27 +178,28 @@ fn come_and_go(
     Ok(())
 }
 
-/// Whether an act answers as it says.
-fn holds(alloc: Global, checker: &mut Checker, act: Act) -> Result<bool, AllocError> {
+/// Applies `act` to `checker`, and returns whether it has the result that it has to have.
+fn holds(alloc: Global, checker: &mut Checker, act: Operation) -> Result<bool, AllocError> {
     let literals = clause(alloc, act.row())?;
     match act {
         Add(_) => checker.add(alloc, &literals)?,
         Delete(_) => checker.delete(&literals)?,
-        ComesAndGoes(_) => come_and_go(alloc, checker, &literals)?,
-        Takes(_) | Refuses(_) => {
+        AddAndDelete(_) => add_and_delete(alloc, checker, &literals)?,
+        Accepts(_) | Refuses(_) => {
             let follows = checker.derive(alloc, &literals)?;
-            return Ok(follows == matches!(act, Takes(_)));
+            return Ok(follows == matches!(act, Accepts(_)));
         }
         IsRefuted(refuted) => return Ok(checker.is_refuted() == refuted),
     }
     Ok(true)
 }
 
-/// The place of the first act that does not answer as it says.
+/// Returns the index of the first operation without its expected result, or `None` if there is
+/// none.
 fn first_wrong(
     alloc: Global,
     checker: &mut Checker,
-    acts: &[Act],
+    acts: &[Operation],
 ) -> Result<Option<usize>, AllocError> {
     for (place, act) in acts.iter().enumerate() {
         if !holds(alloc, checker, *act)? {
@@ -207,8 +209,9 @@ fn first_wrong(
     Ok(None)
 }
 
+/// Checks that each operation of [`HISTORIES`] has its expected result.
 #[test]
-fn each_act_answers_as_it_says(rt: HostRuntime) -> Result<(), Fail> {
+fn each_operation_has_its_expected_result(rt: HostRuntime) -> Result<(), Fail> {
     for (name, acts) in &HISTORIES {
         let mut checker = Checker::new(rt.alloc(), 6)?;
         let variables = checker.variables();

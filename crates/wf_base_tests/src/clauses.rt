@@ -1,12 +1,12 @@
-//! Clauses by the numbers that stand for literals in DIMACS.
+//! Creates clauses from the numbers of DIMACS literals, for tests.
 
 use std::alloc::{AllocError, Global};
-use wf_rup::Literal;
+use wf_sat_check::rup::Literal;
 
-/// All clauses on two variables that have both.
+/// The four clauses with a literal of each of two variables.
 pub const FOUR: [&[i8]; 4] = [&[1, 2], &[1, -2], &[-1, 2], &[-1, -2]];
 
-/// The clause of these numbers.
+/// Creates the clause whose literals have the DIMACS numbers `numbers`.
 pub fn clause(alloc: Global, numbers: &[i8]) -> Result<Vec<Literal>, AllocError> {
     let mut literals = Vec::new(alloc);
     for number in numbers {
@@ -16,7 +16,7 @@ pub fn clause(alloc: Global, numbers: &[i8]) -> Result<Vec<Literal>, AllocError>
     Ok(literals)
 }
 
-/// The clauses of these rows.
+/// Creates a clause for each of `rows`, which lists the DIMACS numbers of its literals.
 pub fn clauses(alloc: Global, rows: &[&[i8]]) -> Result<Vec<Vec<Literal>>, AllocError> {
     let mut all = Vec::new(alloc);
     for row in rows {

@@ -1,17 +1,18 @@
-//! Tests of covers of a torus without a triangle. What is expected was worked out by another
-//! program, from the definitions.
+//! Tests of covers, on a torus without one triangle. The expected values were computed from the
+//! definitions by another program.
 
 ghost use Rattle.std.specs.Prelude.{◌≡◌};
 
 use std::alloc::{AllocError, Global};
 use std::test::Fail;
-use wf_cover::{
+use wf_task::{Row, Task};
+use wf_tree_refine::first_rows;
+use wf_tree_steps::cover::{
     CoverFault, Covering, Move, cover_fault, covered_rows, no_fault_exactly_if_covering,
 };
-use wf_refine::first_rows;
-use wf_task::{Row, Task};
 
-/// Three processes go along a triangle that a torus lacks.
+/// A task of three processes on a triangulated torus without the triangle 0 1 1. All three decide a
+/// triangle of the torus, and fewer of them a vertex or an edge of the missing one.
 pub(crate) const TORUS: &str = concat!(
     r#"{"delta":[{"in":[[0,0]],"out":[[0]]},{"in":[[1,0]],"out":[[1]]},{"in":[[2,0]],"#,
     r#""out":[[1]]},{"in":[[0,0],[1,0]],"out":[[0,1]]},{"in":[[0,0],[2,0]],"out":[[0,1]]},"#,
@@ -25,10 +26,10 @@ pub(crate) const TORUS: &str = concat!(
     r#"[[0,2],[1,2],[2,1]]],"processes":3,"symmetric":false,"version":1}"#
 );
 
-/// A place, a value there, another place and a value there.
+/// A place and a value there, and another place and a value there.
 type Ends = (u8, u8, u8, u8);
 
-/// Between these values of the torus two sheets change.
+/// The pairs of values between which a move exchanges both sheets of a cover of the torus.
 const CHANGES: [Ends; 6] = [
     (0, 1, 1, 2),
     (0, 1, 2, 2),
@@ -38,7 +39,8 @@ const CHANGES: [Ends; 6] = [
     (1, 2, 2, 1),
 ];
 
-/// The triangles of the torus on two sheets, where the names of the second one are 3, 4 and 5.
+/// The triangles of the torus on two sheets. The names 3, 4 and 5 stand for the values 0, 1 and 2
+/// on the second sheet.
 const ON_SHEETS: [[u8; 3]; 34] = [
     [0, 0, 1],
     [0, 0, 2],
@@ -76,7 +78,7 @@ const ON_SHEETS: [[u8; 3]; 34] = [
     [5, 5, 3],
 ];
 
-/// Moves between these values, all by the same sheets.
+/// Creates a move between each pair of values in `ends`, all with the same `sheets`.
 fn moves_by(alloc: Global, ends: &[Ends], sheets: &[u8]) -> Result<Vec<Move>, AllocError> {
     let mut moves = Vec::new(alloc);
     for (first, value, second, other) in ends {
@@ -93,7 +95,7 @@ fn moves_by(alloc: Global, ends: &[Ends], sheets: &[u8]) -> Result<Vec<Move>, Al
     Ok(moves)
 }
 
-/// A cover of the three, with place 0 as its corner.
+/// Creates a cover of the simplex of all three processes, with place 0 as its corner.
 fn cover_by(sheets: u8, moves: Vec<Move>) -> Covering
     ensures { result.simplex ≡ 6 }
 {
@@ -105,7 +107,8 @@ fn cover_by(sheets: u8, moves: Vec<Move>) -> Covering
     }
 }
 
-/// First moves by some sheets, then moves by others.
+/// Creates the moves of `first`, followed by those of `second`. Both are pairs of values with the
+/// sheets of all their moves.
 fn moves_then(
     alloc: Global,
     first: (&[Ends], &[u8]),
@@ -116,18 +119,21 @@ fn moves_then(
     Ok(moves)
 }
 
-/// What is at fault in a cover of the torus by these moves.
+/// Returns the fault of the cover of the torus with `sheets` sheets and the moves `moves`, or
+/// `None` if it has none.
 fn fault_by(alloc: Global, sheets: u8, moves: Vec<Move>) -> Result<Option<CoverFault>, Fail> {
     let task = Task::read_text(alloc, TORUS.as_bytes())?;
     let rows = first_rows(alloc, &task)?;
     let cover = cover_by(sheets, moves);
     if rows.len() != 7 {
-        // a fault that no test of moves expects
+        // a fault that no caller expects, so that its test fails
         return Ok(Some(CoverFault::OneParticipant));
     }
     Ok(cover_fault(alloc, &task, &rows, &cover)?)
 }
 
+/// Checks that the torus has a cover of two sheets, which is not flat without one of its moves or
+/// with a single sheet.
 #[test]
 fn the_torus_has_two_sheets(rt: HostRuntime) -> Result<(), Fail> {
     let alloc = rt.alloc();
@@ -143,6 +149,7 @@ fn the_torus_has_two_sheets(rt: HostRuntime) -> Result<(), Fail> {
     Ok(())
 }
 
+/// Checks that the first of two moves between the same values counts.
 #[test]
 fn the_first_move_counts(rt: HostRuntime) -> Result<(), Fail> {
     let alloc = rt.alloc();
@@ -154,10 +161,11 @@ fn the_first_move_counts(rt: HostRuntime) -> Result<(), Fail> {
     Ok(())
 }
 
+/// Checks that a cover of three sheets is flat if the moves back undo the moves forth.
 #[test]
 fn three_sheets_go_forth_and_back(rt: HostRuntime) -> Result<(), Fail> {
     let alloc = rt.alloc();
-    // at value 1 of place 0 the sheets are turned
+    // moves from value 1 of place 0 turn the three sheets, and moves to that value turn them back
     let forth = [(0, 1, 2, 0), (0, 1, 2, 1), (0, 1, 2, 2)];
     let back = [(1, 0, 0, 1), (1, 1, 0, 1), (1, 2, 0, 1)];
     let moves = moves_then(alloc, (&forth, &[1, 2, 0]), (&back, &[2, 0, 1]))?;
@@ -168,6 +176,8 @@ fn three_sheets_go_forth_and_back(rt: HostRuntime) -> Result<(), Fail> {
     Ok(())
 }
 
+/// Checks the faults of a cover with one participant, without its corner, and without a sheet. They
+/// are judged in this order.
 #[test]
 fn a_cover_has_a_corner_and_a_sheet(rt: HostRuntime) -> Result<(), Fail> {
     let alloc = rt.alloc();
@@ -186,7 +196,8 @@ fn a_cover_has_a_corner_and_a_sheet(rt: HostRuntime) -> Result<(), Fail> {
     Ok(())
 }
 
-/// The tuples of the torus on two sheets, if the cover has no fault.
+/// Returns the tuples of the torus on two sheets for each input simplex, or `None` if the cover has
+/// a fault.
 fn torus_on_two_sheets(alloc: Global) -> Result<Option<Vec<Vec<Row>>>, Fail> {
     let task = Task::read_text(alloc, TORUS.as_bytes())?;
     let rows = first_rows(alloc, &task)?;
@@ -200,12 +211,14 @@ fn torus_on_two_sheets(alloc: Global) -> Result<Option<Vec<Vec<Row>>>, Fail> {
     }
 }
 
+/// Checks the tuples of the torus on two sheets: those of process 0, of processes 0 and 1, and how
+/// many all three have.
 #[test]
 fn the_torus_on_two_sheets(rt: HostRuntime) -> Result<(), Fail> {
     let alloc = rt.alloc();
     let found = torus_on_two_sheets(alloc)?.expect(&rt, "a cover");
     assert_eq!(rt; found.len(), 7);
-    // process 0 alone is on sheet 0, and with process 1 both are on one of two
+    // process 0 alone is on sheet 0, and processes 0 and 1 together are both on the same sheet
     assert_eq!(rt; found[0].as_slice(), [Row::new(&[0])].as_slice());
     let edge = [Row::new(&[0, 1]), Row::new(&[3, 4])];
     assert_eq!(rt; found[3].as_slice(), edge.as_slice());

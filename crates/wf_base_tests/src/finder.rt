@@ -1,15 +1,17 @@
-//! Tests of the finder: tasks of which it is known whether they have a balance.
+//! Tests of the finder, on tasks of which it is known whether they have a balance.
 
 use std::alloc::Global;
 use std::cell::Cell;
 use std::test::Fail;
 use wf_examples::{CONSENSUS_2, RENAMING_2_3};
-use wf_finder::{Listener, Silent, TuplesByClass, find_balance, has_integer_solution};
-use wf_refine::first_rows;
 use wf_task::Task;
+use wf_tree_finder::{
+    FinderProgress, NoFinderProgress, TuplesByClass, find_balance, has_integer_solution,
+};
+use wf_tree_refine::first_rows;
 
-/// A task of three processes with a balance modulo 4, and none modulo 2.
-const FOUR: &str = concat!(
+/// A task of three processes that has a balance modulo 4 but none modulo 2.
+const BALANCE_MODULO_4: &str = concat!(
     r#"{"delta":[{"in":[[0,0]],"out":[[0],[1],[2]]},{"in":[[1,0]],"out":[[0],[1],[2]]},"#,
     r#"{"in":[[2,0]],"out":[[0],[1],[2]]},{"in":[[0,0],[1,0]],"out":[[0,0],[0,1],[0,2],"#,
     r#"[1,0],[1,2],[2,0],[2,1],[2,2]]},{"in":[[0,0],[2,0]],"out":[[0,0],[0,1],[0,2],[1,"#,
@@ -22,14 +24,14 @@ const FOUR: &str = concat!(
     r#"1],[1,2],[2,0]]],"processes":3,"symmetric":true,"version":1}"#,
 );
 
-/// Keeps what it is told last.
+/// A listener that stores the last numbers of unknowns and equations that were reported to it.
 #[derive(Drop)]
-struct Told {
+struct LastProgress {
     unknowns: Cell<u64>,
     equations: Cell<u64>,
 }
 
-impl Listener for Told {
+impl FinderProgress for LastProgress {
     fn system(&self, _modulus: u32, unknowns: u64) {
         self.unknowns.set(unknowns);
     }
@@ -39,44 +41,48 @@ impl Listener for Told {
     }
 }
 
-/// What the finder knows of the task of a text.
+/// Returns the tuples of the task of `text` in the form that the finder takes.
 fn tuples_of(alloc: Global, text: &str) -> Result<TuplesByClass, Fail> {
     let task = Task::read_text(alloc, text.as_bytes())?;
     let rows = first_rows(alloc, &task)?;
     Ok(TuplesByClass::of(alloc, &task, &rows)?)
 }
 
-/// The sum of a balance that is found, and how many multipliers it has.
+/// Returns the sum and the number of multipliers of the balance modulo `modulus` that the finder
+/// finds, or `None` if it finds none.
 fn found(alloc: Global, text: &str, modulus: u32) -> Result<Option<(u32, usize)>, Fail> {
     let tuples = tuples_of(alloc, text)?;
-    match find_balance(alloc, &tuples, modulus, &Silent)? {
+    match find_balance(alloc, &tuples, modulus, &NoFinderProgress)? {
         Some(balance) => Ok(Some((balance.sum, balance.multipliers.len()))),
         None => Ok(None),
     }
 }
 
-/// Whether the integers show that there is none.
+/// Returns whether the equations of the task have a solution in the integers, in which case there
+/// is no balance modulo any number.
 fn has_integers(alloc: Global, text: &str) -> Result<bool, Fail> {
     let tuples = tuples_of(alloc, text)?;
-    Ok(has_integer_solution(alloc, &tuples, &Silent)?)
+    Ok(has_integer_solution(alloc, &tuples, &NoFinderProgress)?)
 }
 
-/// Process 1 decides 1 alone, so it does as often with process 0. But then process 0 decides 1 as
-/// often, which it may not do alone: three equations.
+/// Checks that consensus of two processes has a balance modulo 2 with three multipliers. Modulo 2,
+/// a process decides 1 in as many executions of both as it does alone: process 1 in one, and
+/// process 0 in none. But in executions of both they decide the same.
 #[test]
-fn consensus(rt: HostRuntime) -> Result<(), Fail> {
+fn consensus_has_a_balance(rt: HostRuntime) -> Result<(), Fail> {
     let alloc = rt.alloc();
     assert_eq!(rt; found(alloc, CONSENSUS_2, 2)?, Some((1, 3)));
     Ok(())
 }
 
-/// The constant, one tuple of each process alone and two of both are unknowns. Each alone has an
-/// equation, both have two at the first place, and the first one at the second place contradicts.
+/// Checks what a listener is notified of for consensus. The unknowns are the constant, the tuple of
+/// each process alone, and two tuples of both. Each process alone has one equation, both together
+/// have two at the first place, and the first one at the second place contradicts them.
 #[test]
 fn a_listener_is_told(rt: HostRuntime) -> Result<(), Fail> {
     let alloc = rt.alloc();
     let tuples = tuples_of(alloc, CONSENSUS_2)?;
-    let listener = Told {
+    let listener = LastProgress {
         unknowns: Cell::new(0),
         equations: Cell::new(0),
     };
@@ -86,9 +92,9 @@ fn a_listener_is_told(rt: HostRuntime) -> Result<(), Fail> {
     Ok(())
 }
 
-/// A task that has a decision map.
+/// Checks that no balance is found for a task that has a decision map.
 #[test]
-fn none(rt: HostRuntime) -> Result<(), Fail> {
+fn a_task_with_a_map_has_no_balance(rt: HostRuntime) -> Result<(), Fail> {
     let alloc = rt.alloc();
     assert_eq!(rt; found(alloc, RENAMING_2_3, 2)?, None);
     assert_eq!(rt; found(alloc, RENAMING_2_3, 2_147_483_647)?, None);
@@ -97,13 +103,13 @@ fn none(rt: HostRuntime) -> Result<(), Fail> {
     Ok(())
 }
 
-/// A power of a prime may have a balance where the prime has none.
+/// Checks that a task may have a balance modulo a power of a prime but none modulo the prime.
 #[test]
-fn four(rt: HostRuntime) -> Result<(), Fail> {
+fn a_balance_modulo_4_but_not_2(rt: HostRuntime) -> Result<(), Fail> {
     let alloc = rt.alloc();
-    assert_eq!(rt; found(alloc, FOUR, 2)?, None);
-    let sum = found(alloc, FOUR, 4)?.map(|balance| balance.0);
+    assert_eq!(rt; found(alloc, BALANCE_MODULO_4, 2)?, None);
+    let sum = found(alloc, BALANCE_MODULO_4, 4)?.map(|balance| balance.0);
     assert_eq!(rt; sum, Some(2));
-    assert!(rt; !has_integers(alloc, FOUR)?);
+    assert!(rt; !has_integers(alloc, BALANCE_MODULO_4)?);
     Ok(())
 }

@@ -1,13 +1,12 @@
-//! Tests of the public calls of the crates that the engines stand on, but for the search: texts,
+//! Tests of the public calls of the crates that the engines are built on, except the search: texts,
 //! simplices, tasks, refined tasks, views, reports, obstructions, balances, covers and trees with
 //! their checkers, the finder, questions of branches, and the checkers of solvers' proofs.
 //!
-//! They stand in a crate of their own since a crate with tests is proved twice, with them and
-//! without; here the tests alone are proved, over the contracts of the crates below. What they add
-//! to these contracts: that a call gets its memory and succeeds, and that the definitions say what
-//! is meant, by values from outside. Texts of tasks were written by hand or by another program that
-//! makes these tasks, never by this one. What a command line can show is said by `tests/rows` and
-//! by the scripts in `checks`, and by no test here.
+//! These tests have a crate of their own since a crate with tests is proved twice, with them and
+//! without. Beyond the contracts of the tested crates they show that calls get their memory and
+//! succeed, and that the definitions mean what they should, by values from outside. The tasks were
+//! written by hand or by another program, never by this one. What shows on a command line is tested
+//! by `tests/rows` and by the scripts in `checks` instead.
 #![tactic(auto)]
 
 #[cfg(test)]
@@ -16,6 +15,8 @@ mod asking;
 mod balances;
 #[cfg(test)]
 mod branches;
+#[cfg(test)]
+mod certificates;
 #[cfg(test)]
 mod checkers;
 #[cfg(test)]

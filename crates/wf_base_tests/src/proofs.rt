@@ -1,23 +1,23 @@
-//! Tests of proofs, whole and in pieces.
+//! Tests of the DRAT checker, on proofs that are checked whole and byte by byte.
 
 use crate::clauses::{FOUR, clauses};
 use std::alloc::{AllocError, Global};
 use std::test::Fail;
-use wf_rup::{Checker, Literal, Proof, ProofFault, check_proof};
+use wf_sat_check::rup::{Checker, Literal, Proof, ProofFault, check_proof};
 
-/// What a proof comes to.
+/// The result of checking a proof.
 type Answer = Result<(), ProofFault>;
 
-/// A formula on some variables, and proofs of it with what each comes to.
+/// A formula on `variables` variables, and proofs about it, each with its expected result.
 #[derive(Clone, Copy)]
-struct Question {
+struct ProofCase {
     variables: u32,
     rows: &'static [&'static [i8]],
     proofs: &'static [(&'static [u8], Answer)],
 }
 
-static QUESTIONS: [Question; 3] = [
-    Question {
+static CASES: [ProofCase; 3] = [
+    ProofCase {
         variables: 2,
         rows: &FOUR,
         proofs: &[
@@ -32,7 +32,7 @@ static QUESTIONS: [Question; 3] = [
                 b"d 1 2 65541 0\n1 0\n",
                 Err(ProofFault::NoSuchVariable { line: 1 }),
             ),
-            // what comes behind the contradiction is passed over
+            // whatever follows the contradiction is ignored
             (b"1 0\nx\n\x00", Ok(())),
             (b"", Err(ProofFault::NoContradiction { line: 1 })),
             (b"c\n1 2 0\n", Err(ProofFault::NoContradiction { line: 3 })),
@@ -48,7 +48,7 @@ static QUESTIONS: [Question; 3] = [
                 b"d 1 2 0\n\n1\n0\n",
                 Err(ProofFault::NotImplied { line: 4 }),
             ),
-            // a proof may have new variables, up to a number
+            // a proof may use new variables, up to 65,540 here
             (b"65540 0\n1 0\n", Ok(())),
             (b"c\n65541 0\n", Err(ProofFault::NoSuchVariable { line: 2 })),
             (b"-65541 0\n", Err(ProofFault::NoSuchVariable { line: 1 })),
@@ -72,7 +72,7 @@ static QUESTIONS: [Question; 3] = [
             (b"d\x82\x01\x00", Err(ProofFault::Binary)),
         ],
     },
-    Question {
+    ProofCase {
         variables: 4,
         rows: &[&[1, 2], &[1, -2], &[2], &[-1, 3, 4], &[3, -4]],
         proofs: &[
@@ -87,8 +87,8 @@ static QUESTIONS: [Question; 3] = [
             ),
         ],
     },
-    // three pigeons, each in one of two holes, and no two in one
-    Question {
+    // three pigeons, each in one of two holes, and no two in the same hole
+    ProofCase {
         variables: 6,
         rows: &[
             &[1, 2],
@@ -111,7 +111,7 @@ static QUESTIONS: [Question; 3] = [
     },
 ];
 
-/// A checker of this formula.
+/// Creates a checker for `formula` on `variables` variables.
 fn checker_of(
     alloc: Global,
     variables: u32,
@@ -124,8 +124,14 @@ fn checker_of(
     Ok(checker)
 }
 
-/// What a proof with so many variables comes to that is fed byte by byte.
-fn fed(alloc: Global, checker: &mut Checker, variables: u32, proof: &[u8]) -> Answer {
+/// Feeds `proof` byte by byte to a reader of proofs on `variables` variables, and returns the
+/// result.
+fn check_byte_by_byte(
+    alloc: Global,
+    checker: &mut Checker,
+    variables: u32,
+    proof: &[u8],
+) -> Answer {
     let mut reading = Proof::new(alloc, variables);
     for byte in proof {
         reading.feed(alloc, checker, &[*byte])?;
@@ -133,25 +139,28 @@ fn fed(alloc: Global, checker: &mut Checker, variables: u32, proof: &[u8]) -> An
     reading.finish(alloc, checker)
 }
 
+/// Checks that each proof of [`CASES`] has its expected result, read whole and byte by byte.
 #[test]
 fn proofs_are_judged_whole_and_in_pieces(rt: HostRuntime) -> Result<(), Fail> {
     let alloc = rt.alloc();
-    for Question {
+    for ProofCase {
         variables,
         rows,
         proofs,
-    } in QUESTIONS {
+    } in CASES {
         let formula = clauses(alloc, rows)?;
         for (proof, answer) in proofs {
             let whole = check_proof(alloc, variables, &formula, proof);
             let mut checker = checker_of(alloc, variables, &formula)?;
-            let pieces = fed(alloc, &mut checker, variables, proof);
+            let pieces = check_byte_by_byte(alloc, &mut checker, variables, proof);
             assert_eq!(rt; (whole, pieces), (*answer, *answer), "{proof:?}");
         }
     }
     Ok(())
 }
 
+/// Checks that the largest variable of a proof depends on the number of variables that the proof is
+/// created with, and not on that of the checker.
 #[test]
 fn a_proof_has_its_own_variables(rt: HostRuntime) -> Result<(), Fail> {
     let alloc = rt.alloc();
@@ -162,7 +171,7 @@ fn a_proof_has_its_own_variables(rt: HostRuntime) -> Result<(), Fail> {
         (4, b"1 2 -3 4 0\n65545 0\n", 2),
     ];
     for (variables, proof, line) in rows {
-        let found = fed(alloc, &mut checker, variables, proof);
+        let found = check_byte_by_byte(alloc, &mut checker, variables, proof);
         assert_eq!(rt; found, Err(ProofFault::NoSuchVariable { line }));
     }
     Ok(())

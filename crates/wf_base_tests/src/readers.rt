@@ -1,11 +1,16 @@
-//! Tests of the reader of texts.
+//! Tests of the reader of clausal proofs.
 
 use std::alloc::{AllocError, Global};
 use std::test::Fail;
-use wf_drat::{Literal, Reader, Reading, Turn};
+use wf_sat_text::drat::{Literal, Reader, Reading, Transition};
 
-/// A reader that has read these bytes, in which a literal stands whole at a place or none.
-fn taken(alloc: Global, piece: &[u8], from: usize) -> Result<Option<usize>, AllocError> {
+/// Lets a new reader take a literal at index `from` of `piece`. Returns the index after it, or
+/// `None` if the piece does not hold a whole literal there.
+fn end_of_taken_literal(
+    alloc: Global,
+    piece: &[u8],
+    from: usize,
+) -> Result<Option<usize>, AllocError> {
     if from >= piece.len() {
         return Ok(None);
     }
@@ -13,9 +18,11 @@ fn taken(alloc: Global, piece: &[u8], from: usize) -> Result<Option<usize>, Allo
     reader.take_literal(piece, from)
 }
 
+/// Checks that the reader takes a literal at once only if it ends with a space in the same piece.
 #[test]
 fn whole_literals_are_taken(rt: HostRuntime) -> Result<(), Fail> {
-    // the end of the piece, another blank, a word, the 0, a variable too large, and a sign alone
+    // refused are the end of the piece, another blank, a word, the 0, a variable too large, and a
+    // sign alone
     let rows: [(&[u8], usize, Option<usize>); 9] = [
         (b"-12 7", 0, Some(4)),
         (b"1 12 7", 2, Some(5)),
@@ -28,11 +35,17 @@ fn whole_literals_are_taken(rt: HostRuntime) -> Result<(), Fail> {
         (b"- ", 0, None),
     ];
     for (piece, from, end) in rows {
-        assert_eq!(rt; taken(rt.alloc(), piece, from)?, end, "{piece:?}");
+        assert_eq!(rt;
+            end_of_taken_literal(rt.alloc(), piece, from)?,
+            end,
+            "{piece:?}"
+        );
     }
     Ok(())
 }
 
+/// Checks the transitions of the reader: a deletion begins, a number goes on, a literal is read,
+/// and the step ends. Line feeds are counted.
 #[test]
 fn a_text_is_read_byte_by_byte(rt: HostRuntime) -> Result<(), Fail> {
     let mut reader = Reader::new(rt.alloc(), 12);
@@ -46,8 +59,8 @@ fn a_text_is_read_byte_by_byte(rt: HostRuntime) -> Result<(), Fail> {
         b'1',
     );
     let reads_twelve = matches!(
-        reader.turn(b'2'),
-        Turn::GoesOn {
+        reader.transition(b'2'),
+        Transition::GoesOn {
             reading: Reading::Number { value: 12, .. },
         }
     );

@@ -5,21 +5,21 @@ ghost use Rattle.wf_report.specs.Reports.{AreNumbered, body_length};
 use std::alloc::{AllocError, Global};
 use std::test::Fail;
 use std::thread::Threads;
-use wf_check::check;
+use wf_base::lines::Line;
 use wf_complex::Protocol;
 use wf_examples::PATH_3;
-use wf_lines::Line;
 use wf_report::{
-    Body, CertFault, Header, LONGEST, Report, read_report, reports_are_read_as_written,
+    Body, CertFault, Header, MAX_TEXT_BYTES, Report, read_report, reports_are_read_as_written,
     reports_are_written_as_read, write_report,
 };
+use wf_report_check::check;
 use wf_task::Task;
 
-/// A full report's text.
+/// The text of a report about [`PATH_3`] after one round, with a map.
 const PATH_3_REPORT: &str =
     "wfcheck report 1\nprocesses 2\nrounds 1\npoints 4\nexecutions 5\nanswer map\nm 0\nm 3\nm 2\nm 1\nend\n";
 
-/// What is answered about a report on the complex of a task's text after the rounds of the report.
+/// Returns the checker's verdict on `report` about the task of the text `task`.
 fn judged<R: Threads + Sync>(
     rt: &R,
     alloc: Global,
@@ -33,6 +33,7 @@ fn judged<R: Threads + Sync>(
     Ok(check(rt, alloc, &task, &protocol, report))
 }
 
+/// Checks that each proper beginning of a report is refused at its last line.
 #[test]
 fn a_beginning_is_refused_at_its_last_line(rt: HostRuntime) -> Result<(), Fail> {
     let mut feeds = 0u32;
@@ -51,9 +52,11 @@ fn a_beginning_is_refused_at_its_last_line(rt: HostRuntime) -> Result<(), Fail> 
     Ok(())
 }
 
+/// Checks the length limit of reports: a text of that length is refused at its first line, and one
+/// byte more because of its length.
 #[test]
 fn a_text_is_too_long_from_one_byte_past_the_limit(rt: HostRuntime) -> Result<(), Fail> {
-    let text = vec![in rt.alloc(); b'\n'; LONGEST + 1]?;
+    let text = vec![in rt.alloc(); b'\n'; MAX_TEXT_BYTES + 1]?;
     let faults = [
         read_report(rt.alloc(), &text[1..]).err(),
         read_report(rt.alloc(), &text).err(),
@@ -65,6 +68,7 @@ fn a_text_is_too_long_from_one_byte_past_the_limit(rt: HostRuntime) -> Result<()
     Ok(())
 }
 
+/// Checks that a report without a map is refused if its lines end at one.
 #[test]
 fn no_refutation_ends_at_a_map(rt: HostRuntime) -> Result<(), Fail> {
     let header = Header {
@@ -80,7 +84,7 @@ fn no_refutation_ends_at_a_map(rt: HostRuntime) -> Result<(), Fail> {
     Ok(())
 }
 
-/// What line 6 of a report says that there is.
+/// The kind of answer that line 6 of a report names.
 #[derive(Clone, Copy)]
 enum Kind {
     Map,
@@ -88,7 +92,8 @@ enum Kind {
     Least,
 }
 
-/// The numbers of a report, its kind, the values of its map and its lines; and its text.
+/// The header numbers of reports, their kinds, the values of their maps and their lines, with their
+/// texts.
 static WRITTEN: [([u32; 4], Kind, &[u8], &[Line], &str); 3] = [
     ([2, 1, 4, 5], Kind::Map, &[0, 3, 2, 1], &[], PATH_3_REPORT),
     (
@@ -119,7 +124,7 @@ static WRITTEN: [([u32; 4], Kind, &[u8], &[Line], &str); 3] = [
     ),
 ];
 
-/// The body of a report of a kind.
+/// Creates the body of a report of kind `kind`. A map has no lines, and a refutation no values.
 fn body_of(alloc: Global, kind: Kind, values: &[u8], lines: &[Line]) -> Result<Body, AllocError> {
     let values = Vec::from_slice(alloc, values)?;
     let lines = Vec::from_slice(alloc, lines)?;
@@ -130,7 +135,7 @@ fn body_of(alloc: Global, kind: Kind, values: &[u8], lines: &[Line]) -> Result<B
     })
 }
 
-/// The text of a report.
+/// Returns the text of the report with the header numbers `numbers` and the answer `body`.
 fn written(alloc: Global, numbers: [u32; 4], body: Body) -> Result<Vec<u8>, AllocError> {
     let [processes, rounds, points, executions] = numbers;
     let header = Header {
@@ -142,12 +147,14 @@ fn written(alloc: Global, numbers: [u32; 4], body: Body) -> Result<Vec<u8>, Allo
     write_report(alloc, &Report { header, body })
 }
 
-/// The text of the report of a text, as it is written of a report that is given up.
+/// Reads the report in `text` and returns its text, written by the call that consumes the report.
 fn rewritten(alloc: Global, text: &str) -> Result<Vec<u8>, Fail> {
     let report = read_report(alloc, text.as_bytes())?;
     Ok(report.into_text(alloc)?)
 }
 
+/// Checks that each report of [`WRITTEN`] has the expected text, and that a text is the same after
+/// it was read and written again.
 #[test]
 fn reports_are_written_and_read(rt: HostRuntime) -> Result<(), Fail> {
     reports_are_read_as_written();

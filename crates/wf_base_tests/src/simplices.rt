@@ -1,10 +1,10 @@
-//! Simplices, complexes and words.
+//! Tests of simplices, complexes and words.
 
 use std::alloc::{AllocError, Global};
 use std::test::Fail;
-use wf_simplex::{Complex, Simplex, SimplexFault, Word};
+use wf_simplex::{Complex, Simplex, SimplexFault, Word, word_count};
 
-/// The vertices of a simplex: processes with their values.
+/// The vertices of a simplex, each a process with its value.
 type Pairs = &'static [(u8, u8)];
 
 const EDGE: Pairs = &[(1, 7), (3, 0)];
@@ -13,7 +13,7 @@ const VERTEX: Pairs = &[(3, 0)];
 
 const OTHER_VERTEX: Pairs = &[(3, 1)];
 
-/// Vertices that are a simplex, or why they are none.
+/// Lists of vertices with the fault of each, or `None` if they form a simplex.
 static READ: [(Pairs, Option<SimplexFault>); 12] = [
     (&[(0, 0)], None),
     (&[(3, 63)], None),
@@ -32,7 +32,7 @@ static READ: [(Pairs, Option<SimplexFault>); 12] = [
     ),
 ];
 
-/// Simplices by size, and then as lists.
+/// Simplices in ascending order: by size, and then as lists.
 static ASCENDING: [Pairs; 8] = [
     &[(0, 0)],
     &[(0, 1)],
@@ -44,7 +44,7 @@ static ASCENDING: [Pairs; 8] = [
     &[(0, 0), (1, 0), (2, 0)],
 ];
 
-/// Facets, of which one is listed twice and one is a face of another.
+/// Facets, one of which is listed twice and one of which is a face of another.
 static FACETS: [Pairs; 4] = [
     &[(0, 0), (1, 1)],
     &[(1, 1)],
@@ -54,7 +54,8 @@ static FACETS: [Pairs; 4] = [
 
 static TETRAHEDRON: [Pairs; 1] = [&[(0, 0), (1, 0), (2, 0), (3, 0)]];
 
-/// Where simplices stand in the complex of these facets.
+/// Simplices with their indices in the complex that [`FACETS`] generate, or `None` if they are not
+/// in it.
 static PLACES: [(Pairs, Option<u32>); 7] = [
     (&[(0, 0)], Some(0)),
     (&[(1, 0)], Some(1)),
@@ -65,7 +66,7 @@ static PLACES: [(Pairs, Option<u32>); 7] = [
     (&[(0, 1)], None),
 ];
 
-/// The words of three participants.
+/// The words of three participants in their order, as the block of each participant.
 static WORDS: [[u8; 3]; 13] = [
     [0, 0, 0],
     [0, 0, 1],
@@ -82,10 +83,10 @@ static WORDS: [[u8; 3]; 13] = [
     [2, 1, 0],
 ];
 
-/// Those with two at least in the first block.
+/// The words of [`WORDS`] whose first block has at least two participants.
 static WORDS_OF_PAIRS: [[u8; 3]; 4] = [[0, 0, 0], [0, 0, 1], [0, 1, 0], [1, 0, 0]];
 
-/// The simplices with these vertices.
+/// Creates the simplices with the vertices `rows`.
 fn simplices(alloc: Global, rows: &[Pairs]) -> Result<Vec<Simplex>, Fail> {
     let mut simplices = Vec::new(alloc);
     for pairs in rows {
@@ -94,7 +95,8 @@ fn simplices(alloc: Global, rows: &[Pairs]) -> Result<Vec<Simplex>, Fail> {
     Ok(simplices)
 }
 
-/// Whether a simplex is more than those before this place, itself here, and less than the others.
+/// Returns whether `simplex` is greater than those before `place` in `ascending`, equal to the one
+/// at `place`, and less than those behind it.
 fn stands_at(ascending: &[Simplex], simplex: &Simplex, place: usize) -> bool {
     for (other_place, other) in ascending.iter().enumerate() {
         if simplex.cmp(other) != place.cmp(&other_place)
@@ -106,7 +108,7 @@ fn stands_at(ascending: &[Simplex], simplex: &Simplex, place: usize) -> bool {
     true
 }
 
-/// Puts the levels of three participants at the end of a list.
+/// Appends the blocks of the three participants of `word` to `list`. Other words are ignored.
 fn put_levels(word: &Word, list: &mut Vec<[u8; 3]>) -> Result<(), AllocError> {
     if word.size() == 3 {
         list.push([word.level(0), word.level(1), word.level(2)])?;
@@ -114,6 +116,7 @@ fn put_levels(word: &Word, list: &mut Vec<[u8; 3]>) -> Result<(), AllocError> {
     Ok(())
 }
 
+/// Checks that each list of vertices of [`READ`] is a simplex or has its expected fault.
 #[test]
 fn simplices_are_read_or_refused(rt: HostRuntime) {
     for (place, (pairs, fault)) in READ.iter().enumerate() {
@@ -121,7 +124,7 @@ fn simplices_are_read_or_refused(rt: HostRuntime) {
     }
 }
 
-/// How many vertices a simplex has, and what processes 0, 1, 3 and 4 have there.
+/// Returns the number of vertices of `simplex`, and the values of processes 0, 1, 3 and 4 in it.
 fn values(simplex: &Simplex) -> (u8, [Option<u8>; 4]) {
     let values = [
         simplex.value(0),
@@ -132,7 +135,7 @@ fn values(simplex: &Simplex) -> (u8, [Option<u8>; 4]) {
     (simplex.colours(), values)
 }
 
-/// The processes of an edge.
+/// Returns the processes of `simplex` if it is an edge.
 fn ends(simplex: &Simplex) -> Option<(u8, u8)> {
     if simplex.colours() != 2 {
         return None;
@@ -140,11 +143,12 @@ fn ends(simplex: &Simplex) -> Option<(u8, u8)> {
     Some((simplex.colour(0), simplex.colour(1)))
 }
 
-/// Whether the first of two simplices is a face of the second.
+/// Returns whether `face` is a face of `whole`.
 fn is_face(face: Pairs, whole: Pairs) -> Result<bool, SimplexFault> {
     Ok(Simplex::read(face)?.is_face(&Simplex::read(whole)?))
 }
 
+/// Checks the values, the processes and the places of an edge.
 #[test]
 fn simplices_know_their_vertices(rt: HostRuntime) -> Result<(), Fail> {
     let edge = Simplex::read(EDGE)?;
@@ -156,6 +160,7 @@ fn simplices_know_their_vertices(rt: HostRuntime) -> Result<(), Fail> {
     Ok(())
 }
 
+/// Checks which simplices are faces of an edge and of a vertex.
 #[test]
 fn faces_are_told_apart(rt: HostRuntime) {
     assert!(rt; is_face(VERTEX, EDGE) == Ok(true));
@@ -164,6 +169,7 @@ fn faces_are_told_apart(rt: HostRuntime) {
     assert!(rt; is_face(OTHER_VERTEX, EDGE) == Ok(false));
 }
 
+/// Checks that the simplices of [`ASCENDING`] are in ascending order.
 #[test]
 fn simplices_are_ordered_by_size_and_then_as_lists(rt: HostRuntime) -> Result<(), Fail> {
     let ascending = simplices(rt.alloc(), &ASCENDING)?;
@@ -173,7 +179,8 @@ fn simplices_are_ordered_by_size_and_then_as_lists(rt: HostRuntime) -> Result<()
     Ok(())
 }
 
-/// How many simplices the complex with these facets has.
+/// Returns the number of simplices of the complex that `facets` generate, or `None` if there are
+/// more than four facets.
 fn complex_size(alloc: Global, facets: &[Pairs]) -> Result<Option<usize>, Fail> {
     let facets = simplices(alloc, facets)?;
     if facets.len() > 4 {
@@ -182,12 +189,13 @@ fn complex_size(alloc: Global, facets: &[Pairs]) -> Result<Option<usize>, Fail> 
     Ok(Some(Complex::from_facets(alloc, &facets)?.simplices().len()))
 }
 
-/// Where a simplex stands in a complex, and whether it is there.
+/// Returns the index of a simplex in `complex`, and whether the complex has it.
 fn found(complex: &Complex, pairs: Pairs) -> Result<(Option<u32>, bool), Fail> {
     let simplex = Simplex::read(pairs)?;
     Ok((complex.index(&simplex), complex.contains(&simplex)))
 }
 
+/// Checks the sizes of complexes that facets generate.
 #[test]
 fn complexes_are_closed_under_faces(rt: HostRuntime) -> Result<(), Fail> {
     assert!(rt; complex_size(rt.alloc(), &FACETS)? == Some(5));
@@ -196,6 +204,7 @@ fn complexes_are_closed_under_faces(rt: HostRuntime) -> Result<(), Fail> {
     Ok(())
 }
 
+/// Checks the index of each simplex of [`PLACES`].
 #[test]
 fn simplices_of_a_complex_are_found(rt: HostRuntime) -> Result<(), Fail> {
     let facets = simplices(rt.alloc(), &FACETS)?;
@@ -210,6 +219,8 @@ fn simplices_of_a_complex_are_found(rt: HostRuntime) -> Result<(), Fail> {
     Ok(())
 }
 
+/// Checks the order of the words of three participants, and which of them have two in the first
+/// block.
 #[test]
 fn words_follow_one_another(rt: HostRuntime) -> Result<(), Fail> {
     let mut words = Vec::new(rt.alloc());
@@ -227,4 +238,11 @@ fn words_follow_one_another(rt: HostRuntime) -> Result<(), Fail> {
     assert!(rt; words.as_slice() == WORDS.as_slice());
     assert!(rt; allowed.as_slice() == WORDS_OF_PAIRS.as_slice());
     Ok(())
+}
+
+/// Checks the numbers of words of one to four participants: ordered set partitions.
+#[test]
+fn words_are_counted(rt: HostRuntime) {
+    let counts = [word_count(1), word_count(2), word_count(3), word_count(4)];
+    assert_eq!(rt; counts, [1, 3, 13, 75]);
 }

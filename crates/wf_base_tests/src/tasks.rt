@@ -1,25 +1,25 @@
-//! Rows and tasks. Which texts are refused, and what is printed then: checks/texts has the program
-//! read them.
+//! Tests of rows and tasks. `checks/texts` tests with the whole program which texts are refused,
+//! and what is printed then.
 
 use std::alloc::Global;
 use std::test::Fail;
+use wf_base::set::Mask;
 use wf_examples::PATH_3;
-use wf_set::Mask;
 use wf_task::{Row, Task};
 
-/// A text with its tuples out of order, one of them twice.
+/// The text of a task with its tuples out of order and one of them twice.
 const DISORDERED: &str =
     r#"{"version":1,"processes":1,"symmetric":true,"inputs":[[[0,7]]],"outputs":[[[0,63]],[[0,0]],[[0,5]]],"delta":[{"in":[[0,7]],"out":[[63],[5],[0],[5]]}]}"#;
 
-/// A text of version 2, which names the least size of a first block.
+/// The text of a task in version 2, which names the least size of a first block.
 const VERSION_2: &str =
     r#"{"version":2,"first_block":3,"processes":1,"symmetric":false,"inputs":[[[0,64]]],"outputs":[[[0,255]]],"delta":[{"in":[[0,64]],"out":[[255]]}]}"#;
 
-/// What a task tells: its version and first block, its processes and whether it is symmetric, the
-/// numbers of its input and output simplices, and its values.
+/// The facts of a task: its version and first block, its number of processes and whether it is
+/// symmetric, the numbers of its input and output simplices, and its values.
 type Told = ((u8, u8), (u8, bool), (usize, usize), Mask);
 
-/// Texts of tasks, and what they tell.
+/// Texts of tasks with their facts.
 static TEXTS: [(&str, Told); 3] = [
     (PATH_3, ((1, 1), (2, false), (3, 18), [15, 0, 0, 0])),
     (
@@ -29,7 +29,7 @@ static TEXTS: [(&str, Told); 3] = [
     (VERSION_2, ((2, 3), (1, false), (1, 1), [0, 0, 0, 1 << 63])),
 ];
 
-/// What the task of a text tells.
+/// Returns the facts of the task of `text`.
 fn facts(alloc: Global, text: &str) -> Result<Told, Fail> {
     let task = Task::read_text(alloc, text.as_bytes())?;
     Ok((
@@ -43,7 +43,7 @@ fn facts(alloc: Global, text: &str) -> Result<Told, Fail> {
     ))
 }
 
-/// Texts that list some things twice and out of order, and their canonical texts.
+/// Texts of tasks that list things twice and out of order, with their canonical texts.
 static CANONICAL: [(&str, &str); 2] = [
     (
         DISORDERED,
@@ -55,12 +55,13 @@ static CANONICAL: [(&str, &str); 2] = [
     ),
 ];
 
-/// The canonical text of the task of a text.
+/// Returns the canonical text of the task of `text`.
 fn canonical(alloc: Global, text: &str) -> Result<Vec<u8>, Fail> {
     let task = Task::read_text(alloc, text.as_bytes())?;
     Ok(task.write_text(alloc)?)
 }
 
+/// Checks the size and the values of a row.
 #[test]
 fn rows_are_their_values(rt: HostRuntime) {
     let row = Row::new(&[5, 7, 63, 255]);
@@ -68,6 +69,7 @@ fn rows_are_their_values(rt: HostRuntime) {
     assert_eq!(rt; (row.size(), row.value(0), row.value(3)), (4, 5, 255));
 }
 
+/// Checks that rows are ordered as lists of values.
 #[test]
 fn rows_are_ordered_as_lists(rt: HostRuntime) {
     let ascending = [Row::new(&[2, 9]), Row::new(&[3, 0]), Row::new(&[3, 0, 0])];
@@ -79,6 +81,7 @@ fn rows_are_ordered_as_lists(rt: HostRuntime) {
     }
 }
 
+/// Checks the facts of each task of [`TEXTS`].
 #[test]
 fn texts_are_tasks(rt: HostRuntime) -> Result<(), Fail> {
     for (text, told) in &TEXTS {
@@ -87,6 +90,7 @@ fn texts_are_tasks(rt: HostRuntime) -> Result<(), Fail> {
     Ok(())
 }
 
+/// Checks that each text of [`CANONICAL`] has its expected canonical text.
 #[test]
 fn texts_have_their_canonical_texts(rt: HostRuntime) -> Result<(), Fail> {
     for (text, expected) in &CANONICAL {

@@ -1,11 +1,11 @@
-//! Whole texts, read from a source and written to a sink.
+//! Tests of reading whole texts from a source and writing them to a sink.
 
 use std::io;
 use std::io::{Read, Write};
 use std::test::Fail;
-use wf_io::{ReadFault, Sink, Source, WriteFault, read_all, write_whole};
+use wf_base::streams::{ReadFault, Sink, Source, WriteFault, read_all, write_whole};
 
-/// Takes no byte, and never answers an error.
+/// A writer that takes no byte and never fails.
 #[derive(Drop)]
 pub struct Full;
 
@@ -19,14 +19,14 @@ impl Write for Full {
     }
 }
 
-/// Gives line feeds without end, and counts them.
+/// A reader that gives line feeds without end, and counts them.
 #[derive(Drop)]
 pub struct LineFeeds<'a> {
     given: &'a mut usize,
 }
 
 impl<'a> LineFeeds<'a> {
-    /// Adds to this count.
+    /// Creates a reader that adds the number of bytes it gives to `given`.
     pub(crate) fn new(given: &'a mut usize) -> LineFeeds<'a> {
         LineFeeds { given }
     }
@@ -40,6 +40,7 @@ impl Read for LineFeeds<'_> {
     }
 }
 
+/// Checks that texts of lengths around the size of a page are read to their end.
 #[test]
 fn a_text_is_read_to_its_end(rt: HostRuntime) -> Result<(), Fail> {
     for length in [0usize, 1, 4095, 4096, 4097, 10_000] {
@@ -52,6 +53,7 @@ fn a_text_is_read_to_its_end(rt: HostRuntime) -> Result<(), Fail> {
     Ok(())
 }
 
+/// Checks that reading a text that is too long takes one byte more than the limit.
 #[test]
 fn one_byte_more_than_the_most_is_taken(rt: HostRuntime) -> Result<(), Fail> {
     for most in [0usize, 1, 4095, 4096, 10_000] {
@@ -65,6 +67,7 @@ fn one_byte_more_than_the_most_is_taken(rt: HostRuntime) -> Result<(), Fail> {
     Ok(())
 }
 
+/// Checks that texts are written whole, one after the other.
 #[test]
 fn a_text_is_written_whole(rt: HostRuntime) -> Result<(), Fail> {
     let mut written = Vec::new(rt.alloc());
@@ -78,6 +81,7 @@ fn a_text_is_written_whole(rt: HostRuntime) -> Result<(), Fail> {
     Ok(())
 }
 
+/// Checks that a writer that takes no byte counts as failed.
 #[test]
 fn a_writer_that_takes_nothing_has_failed(rt: HostRuntime) -> Result<(), Fail> {
     let mut sink = Sink::new(Full);

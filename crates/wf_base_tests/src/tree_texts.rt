@@ -1,4 +1,5 @@
-//! Texts that are read and written, lines that are refused, and the numbers of lines.
+//! Tests of the text of obstructions: texts that are read and written again, lines that are
+//! refused, and line numbers.
 
 use std::alloc::{AllocError, Global};
 use std::test::Fail;
@@ -8,18 +9,20 @@ use wf_tree_text::{
     obstructions_are_written_as_read, read_obstruction, write_obstruction,
 };
 
-/// The lines in front of the nodes.
+/// The first lines of an obstruction, which come before its nodes.
 const FRONT: &str = "wfcheck obstruction 1\nprocesses 3\nsimplices 7\n";
 
-/// The hourglass: the triangle is taken apart, and then one count says that there is no map.
+/// An obstruction of the hourglass: the simplex of all three is split, and then one balance shows
+/// that there is no map.
 const HOURGLASS: &str =
     "wfcheck obstruction 1\nprocesses 3\nsimplices 7\nsplit 6\nbalance 2 1\nm 1 1 0\nm 1 3 0 1\nm 1 3 1 1\nend\n";
 
-/// A cover of two sheets, which one move exchanges and one keeps, and two balances below.
+/// An obstruction with a cover of two sheets, which one move exchanges and another keeps, and below
+/// it a case and two balances.
 const COVER: &str =
     "wfcheck obstruction 1\nprocesses 3\nsimplices 7\ncover 6 2 0\np 0 1 2 3 1 0\np 0 2 1 0 0 1\ncase 4294967295\nbalance 7 6\nm 6 6 3 255 0 1\nbalance 2 0\nend\n";
 
-/// The text of these lines behind those in front.
+/// Returns the text of the first lines and then `lines`.
 fn text_of(alloc: Global, lines: &str) -> Result<String, AllocError> {
     let mut text = String::new(alloc);
     text.push_str(FRONT)?;
@@ -27,7 +30,8 @@ fn text_of(alloc: Global, lines: &str) -> Result<String, AllocError> {
     Ok(text)
 }
 
-/// The line that is refused, or 0.
+/// Returns the number of the line at which the text with the nodes `lines` is refused, or 0 if it
+/// is read.
 fn refused(alloc: Global, lines: &str) -> Result<u32, AllocError> {
     let text = text_of(alloc, lines)?;
     match read_obstruction(alloc, text.as_bytes()) {
@@ -37,6 +41,8 @@ fn refused(alloc: Global, lines: &str) -> Result<u32, AllocError> {
     }
 }
 
+/// Checks that obstructions are written as they were read, and that a first line without its line
+/// feed doesn't begin one.
 #[test]
 fn what_is_read_is_written(rt: HostRuntime) -> Result<(), Fail> {
     let alloc = rt.alloc();
@@ -53,12 +59,13 @@ fn what_is_read_is_written(rt: HostRuntime) -> Result<(), Fail> {
     Ok(())
 }
 
+/// Checks the nodes of [`COVER`], and the line numbers of their entries.
 #[test]
 fn lines_are_parts_of_nodes(rt: HostRuntime) -> Result<(), Fail> {
     let alloc = rt.alloc();
     let obstruction = read_obstruction(alloc, COVER.as_bytes())?;
     let nodes = obstruction.nodes.as_slice();
-    // the cover at line 4 has two moves, and the first balance one multiplier
+    // the cover on line 4 has two moves, and the first balance one multiplier
     let lines = [
         line_of(nodes, 0, 0),
         line_of(nodes, 0, 2),
@@ -93,6 +100,8 @@ fn lines_are_parts_of_nodes(rt: HostRuntime) -> Result<(), Fail> {
     Ok(())
 }
 
+/// Checks that texts without a node, with unusual numbers and with many moves and multipliers are
+/// read.
 #[test]
 fn texts_may_have_no_node_or_many(rt: HostRuntime) -> Result<(), Fail> {
     let alloc = rt.alloc();
@@ -110,11 +119,12 @@ fn texts_may_have_no_node_or_many(rt: HostRuntime) -> Result<(), Fail> {
     Ok(())
 }
 
+/// Checks that a text is refused at its first bad line.
 #[test]
 fn the_first_bad_line_is_named(rt: HostRuntime) -> Result<(), Fail> {
     let alloc = rt.alloc();
     let bad = [
-        // lines that are missing, that come behind the end, or that say nothing
+        // lines that are missing, that follow the end, or that mean nothing
         ("", 4),
         ("case 1\n", 5),
         ("end", 4),
@@ -162,6 +172,8 @@ fn the_first_bad_line_is_named(rt: HostRuntime) -> Result<(), Fail> {
     Ok(())
 }
 
+/// Checks the length limit of obstructions: a text of that length is refused at its first line, and
+/// one byte more because of its length.
 #[test]
 fn a_text_above_the_limit_is_too_long(rt: HostRuntime) -> Result<(), Fail> {
     let alloc = rt.alloc();

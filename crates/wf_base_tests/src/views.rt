@@ -1,10 +1,11 @@
-//! Views by number.
+//! Tests of the table of views.
 
 use std::alloc::AllocError;
 use std::test::Fail;
 use wf_complex::Views;
 
-/// Processes with their inputs, and the numbers that these views get one after another.
+/// Processes with their inputs, and the index that the table gives the view of each, one after the
+/// other.
 static NUMBERED: [(u8, u8, u32); 6] = [
     (0, 5, 0),
     (1, 5, 1),
@@ -14,7 +15,8 @@ static NUMBERED: [(u8, u8, u32); 6] = [
     (2, 1, 4),
 ];
 
-/// The number of the view of a process that knows its input alone.
+/// Returns the index of the view of `process` before the first round, or `None` if there is no such
+/// process or the table has more than 100 views.
 fn base(views: &mut Views, process: u8, value: u8) -> Result<Option<u32>, AllocError> {
     if process > 3 || views.len() > 100 {
         return Ok(None);
@@ -22,7 +24,8 @@ fn base(views: &mut Views, process: u8, value: u8) -> Result<Option<u32>, AllocE
     Ok(Some(views.base(process, value)?))
 }
 
-/// The process of a view, its input, and the processes that occur in it.
+/// Returns the process of view `id`, its input, and the set of processes that occur in it, a bit
+/// for each.
 fn known(views: &Views, id: u32) -> Option<(u8, Option<u8>, u8)> {
     if id >= views.len() {
         return None;
@@ -30,7 +33,7 @@ fn known(views: &Views, id: u32) -> Option<(u8, Option<u8>, u8)> {
     Some((views.colour(id), views.input(id), views.colours_in(id)))
 }
 
-/// The numbers of the views that a view saw.
+/// Returns the indices of the views that view `id` saw.
 fn parts(views: &Views, id: u32) -> Option<&[u32]> {
     if id >= views.len() {
         return None;
@@ -38,6 +41,7 @@ fn parts(views: &Views, id: u32) -> Option<&[u32]> {
     Some(views.parts(id))
 }
 
+/// Checks that a new view gets the next index, and a known one the index that it has.
 #[test]
 fn one_number_is_one_view(rt: HostRuntime) -> Result<(), Fail> {
     let mut views = Views::start(rt.alloc());
@@ -51,6 +55,7 @@ fn one_number_is_one_view(rt: HostRuntime) -> Result<(), Fail> {
     Ok(())
 }
 
+/// Checks that `normal` replaces each process by its rank among those that occur, at every depth.
 #[test]
 fn ranks_count_what_occurs_at_depth(rt: HostRuntime) -> Result<(), Fail> {
     let mut views = Views::start(rt.alloc());

@@ -1,11 +1,10 @@
-//! Times `TupleTable::revise`, or the stages of a search.
+//! Benchmarks of `TupleTable::revise` and of the stages of a search.
 //!
-//! - `wf_bench ROWS CALLS` makes so many calls on a table of so many rows of
-//!   four values, and prints a checksum of what was found, and the
-//!   nanoseconds of processor time that the calls took.
-//! - `wf_bench stages ROUNDS [REPEATS [LAST]]` reads a task from standard input, and prints the
-//!   nanoseconds of processor time that reading it took, and then the stages of its search up to
-//!   the last, which is `join`, `close` or `search`.
+//! - `wf_bench ROWS CALLS` calls `revise` CALLS times on a table of ROWS rows of four values, and
+//!   prints a checksum of the results, and the nanoseconds of processor time that the calls took.
+//! - `wf_bench stages ROUNDS [REPEATS [LAST]]` reads a task from standard input, and prints for
+//!   each stage the mean nanoseconds of processor time. The stages are reading the task, building
+//!   its protocol complex, `join`, `close` and `search`; those after LAST are not run.
 //! - With no arguments it prints two checksums, and no time.
 #![tactic(auto)]
 
@@ -14,25 +13,28 @@ ghost use Rattle.std.specs.Prelude.{◌≤◌};
 mod stages;
 
 use anyhow::Result;
-use stages::{Last, time_stages};
+use stages::{LastStage, time_stages};
 use std::alloc::{AllocError, Global};
 use std::time::CpuClock;
 use std::{env, io};
+use wf_base::set::from_set64;
 use wf_lane::TupleTable;
-use wf_set::of_part;
 use wf_task::Row;
 
+/// Returns the number after `x` of a linear congruential generator.
 fn next(x: u32) -> u32 {
     x.wrapping_mul(1664525).wrapping_add(1013904223)
 }
 
+/// Converts a random number to a value from 0 to 5.
 fn value(x: u32) -> u8
     ensures { result ≤ 63 }
 {
     ((x >> 16) % 6) as u8
 }
 
-/// A table of so many rows, whose values are from 0 to 5.
+/// Creates a table of `size` rows of four pseudo-random values from 0 to 5. It is the same table
+/// each time.
 fn table_of(alloc: Global, size: u32) -> Result<TupleTable, AllocError> {
     let mut rows = Vec::new(alloc);
     let mut x = 1;
@@ -48,17 +50,17 @@ fn table_of(alloc: Global, size: u32) -> Result<TupleTable, AllocError> {
     TupleTable::build(alloc, &rows, 4)
 }
 
-/// A checksum of what so many calls find, the sets of the first two places
-/// another ones at each call.
+/// Revises `table` `calls` times, and returns a checksum of the results. The candidates of the
+/// first two places change from call to call.
 fn repeat(table: &TupleTable, calls: u32) -> u64 {
     let mut total: u64 = 0;
     for k in 0..calls {
         let x = u64::from(k);
         let found = table.revise([
-            of_part(63 ^ (x % 64)),
-            of_part(63 ^ (x / 64 % 64)),
-            of_part(62),
-            of_part(31),
+            from_set64(63 ^ (x % 64)),
+            from_set64(63 ^ (x / 64 % 64)),
+            from_set64(62),
+            from_set64(31),
         ]);
         let [[a, ..], [b, ..], [c, ..], [d, ..]] = found.masks;
         let mixed = a ^ b.wrapping_mul(3) ^ c.wrapping_mul(5) ^ d.wrapping_mul(7);
@@ -69,19 +71,21 @@ fn repeat(table: &TupleTable, calls: u32) -> u64 {
     total
 }
 
+/// Parses a number. Returns `None` if there is no word, or it is no number.
 fn number(word: Option<String>) -> Option<u32> {
     word?.parse().ok()
 }
 
-fn last_stage(word: Option<String>) -> Last {
+/// Parses the name of the last stage to run; it is `search` unless the word is `join` or `close`.
+fn last_stage(word: Option<String>) -> LastStage {
     match word.as_deref() {
-        Some("join") => Last::Join,
-        Some("close") => Last::Close,
-        _ => Last::Search,
+        Some("join") => LastStage::Join,
+        Some("close") => LastStage::Close,
+        _ => LastStage::Search,
     }
 }
 
-/// The checksums of two tables.
+/// Prints the checksums of 1000 revisions of a table of 300 rows and of one of 24 rows.
 fn print_sums(rt: &HostRuntime) -> Result<()> {
     let large = table_of(rt.alloc(), 300)?;
     let small = table_of(rt.alloc(), 24)?;
@@ -89,6 +93,8 @@ fn print_sums(rt: &HostRuntime) -> Result<()> {
     Ok(())
 }
 
+/// Prints the checksum of `calls` revisions of a table of `size` rows, and the nanoseconds of
+/// processor time that they took.
 fn time_table(rt: &HostRuntime, size: u32, calls: u32) -> Result<()> {
     let table = table_of(rt.alloc(), size)?;
     let start = rt.process_cpu_time()?;
@@ -99,6 +105,7 @@ fn time_table(rt: &HostRuntime, size: u32, calls: u32) -> Result<()> {
     Ok(())
 }
 
+/// Runs the benchmark that the command line names.
 fn main(rt: HostRuntime) -> Result<()> {
     let mut words = env::args(&rt)?.skip(1);
     let Some(first) = words.next() else {

@@ -1,4 +1,4 @@
-//! The board and its seats.
+//! The board, and the seats through which workers use it.
 
 ghost use Rattle.std.specs.Prelude.{◌≡◌, ◌+◌, ◌*◌, ◌^◌, ◌<◌, ◌≤◌, [], ◌∷◌, ◌++◌, length, IfOk};
 ghost use Rattle.wf_board.specs.Rule.{Sits, IsLeft, Ends};
@@ -15,9 +15,10 @@ use std::alloc::{AllocError, Global};
 use std::marker::{Brand, Model};
 use wf_core::Account;
 
-/// The least posted branch, and the numbers of refuted and cut branches, as three atomic words.
+/// A shared record of a search, in three atomic words: the least posted branch, and the numbers of
+/// refuted and of cut branches.
 ///
-/// Contracts see which board it is, and its numbers of branches and workers.
+/// Contracts see the board's identity, and its numbers of branches and workers.
 #[derive(Drop)]
 pub struct Board {
     table: Table<(), SeatView, Ledger, BoardRule, Global>,
@@ -36,10 +37,10 @@ impl Model for Board {
         × (b.branches * b.workers < 2 ^ 32) × (0 < b.workers) };
 }
 
-/// A worker's seat at a board.
+/// A worker's seat at a board, through which it makes all its calls.
 ///
-/// Contracts see which board it is of, the number that it has seen, and the branches that it has
-/// posted, refuted and cut.
+/// Contracts see which board the seat belongs to, the number that it has seen last, and the
+/// branches that it has posted, refuted and cut.
 #[derive(Drop)]
 pub struct BoardSeat {
     seat: Seat<(), SeatView>,
@@ -57,14 +58,15 @@ impl Model for BoardSeat {
     ghost invariant = { λ s. Sits s.seen s.posts s.branches s.seat.me };
 }
 
-/// A seat with the numbers of the workers that have no seat yet.
+/// A seat of the underlying table that stands for all workers without a seat of their own. `left`
+/// is the number of these workers.
 #[derive(Drop)]
 struct Unseated {
     seat: Seat<(), SeatView>,
     left: u32,
 }
 
-/// The three words of a board that is closed.
+/// The final values of a closed board's three words.
 #[derive(Clone, Copy)]
 struct Words {
     least: u32,
@@ -73,8 +75,8 @@ struct Words {
 }
 
 impl BoardSeat {
-    /// The number that this seat has seen: the least posted branch as of its
-    /// last look or post, or the number of branches.
+    /// Returns the number that this seat has seen: the least posted branch at its last look or
+    /// post, or the number of branches if none was posted.
     pub fn seen(&self) -> u32
         ensures { result ≡ self.now.seen }
     {
@@ -83,7 +85,13 @@ impl BoardSeat {
 }
 
 impl Board {
-    /// A board, with a seat for each worker.
+    /// Creates a board, and a seat for each worker.
+    ///
+    /// There must be at least one worker, and `branches * workers` must be below 2^32.
+    ///
+    /// # Errors
+    ///
+    /// Returns `AllocError` if memory runs out.
     pub fn make(
         alloc: Global,
         branches: u32,
@@ -94,11 +102,12 @@ impl Board {
         ensures seats { IfOk result (λ m. AreFresh m.0 workers m.1.items) }
     {
         let (board, rest) = Board::open(alloc, branches, workers)?;
-        let seats = board.hand_all(alloc, rest)?;
+        let seats = board.split_seats(alloc, rest)?;
         Ok((board, seats))
     }
 
-    /// Sees the least posted number, or the number of branches where none is posted. One load.
+    /// Returns the least posted branch, or the number of branches if none is posted, and records it
+    /// in `seat` as seen. It is one atomic load.
     pub fn least(&self, seat: &mut BoardSeat) -> u32
         requires { seat.old.table ≡ self.now.table }
         ensures looked { seat.new ≡ looked seat.old result }
@@ -109,7 +118,10 @@ impl Board {
         seat.seen
     }
 
-    /// Posts a branch that has a map, and sees the least posted number. One atomic minimum.
+    /// Posts `branch`, which has a map, and returns the least posted branch, which is at most
+    /// `branch`. The result is recorded in `seat` as seen. It is one atomic minimum.
+    ///
+    /// `branch` must be a branch of this board that `seat` has not settled before.
     pub fn post(&self, seat: &mut BoardSeat, branch: u32) -> u32
         requires board { IsSeatOf self.now seat.old }
         requires branch { MaySettle self.now seat.old branch }
@@ -126,7 +138,9 @@ impl Board {
         seat.seen
     }
 
-    /// Counts a branch that was searched and has no map. One atomic addition.
+    /// Counts `branch` as searched and without a map. It is one atomic addition.
+    ///
+    /// `branch` must be a branch of this board that `seat` has not settled before.
     pub fn searched(&self, seat: &mut BoardSeat, branch: u32)
         requires board { IsSeatOf self.now seat.old }
         requires branch { MaySettle self.now seat.old branch }
@@ -135,8 +149,10 @@ impl Board {
         self.add_refuted::<Brand>(seat, branch);
     }
 
-    /// Counts a branch that needs no search, since the seat has seen a lower
-    /// one posted. One atomic addition.
+    /// Counts `branch` as cut: it needs no search, because `seat` has seen a lower branch posted.
+    /// It is one atomic addition.
+    ///
+    /// `branch` must be a branch of this board that `seat` has not settled before.
     pub fn cut(&self, seat: &mut BoardSeat, branch: u32)
         requires board { IsSeatOf self.now seat.old }
         requires branch { MaySettle self.now seat.old branch }
@@ -146,7 +162,8 @@ impl Board {
         self.add_cut::<Brand>(seat, branch);
     }
 
-    /// What all workers did, exactly. It takes all seats of this board, and no memory.
+    /// Closes the board and returns the exact account of what all workers did. `seats` must be all
+    /// seats of this board.
     pub fn finish(self, seats: Vec<BoardSeat>) -> Account
         requires { AreAllSeats self seats.items }
         ensures branches { result.branches ≡ self.branches }
@@ -160,7 +177,7 @@ impl Board {
             unreachable!()
         };
         let branches = self.branches;
-        let (all, posts) = self.gather(first, seats);
+        let (all, posts) = self.join_seats(first, seats);
         let words = self.close(all);
         Account {
             branches,
@@ -170,6 +187,7 @@ impl Board {
         }
     }
 
+    /// Creates a board, and one seat that stands for all its workers.
     fn open(alloc: Global, branches: u32, workers: u32) -> Result<(Board, Unseated), AllocError>
         requires { MayHave branches workers }
         ensures board { IfOk result (λ m. HasSize branches workers m.0) }
@@ -193,22 +211,23 @@ impl Board {
         Ok((board, rest))
     }
 
-    fn hand_all(&self, alloc: Global, mut rest: Unseated) -> Result<Vec<BoardSeat>, AllocError>
+    /// Splits `rest` into one seat for each worker that it stands for.
+    fn split_seats(&self, alloc: Global, mut rest: Unseated) -> Result<Vec<BoardSeat>, AllocError>
         requires some { 0 < rest.left }
         requires rest { IsLeft self.now rest.seat.table_id rest.seat.me rest.left }
         ensures { IfOk result (λ s. AreFresh self.now rest.left s.items) }
     {
         let mut seats = Vec::new(alloc);
         while rest.left > 1 {
-            seats.push(self.hand(&mut rest))?;
+            seats.push(self.split_seat(&mut rest))?;
         }
         let Unseated { seat, left: _ } = rest;
         seats.push(self.seat_of(seat))?;
         Ok(seats)
     }
 
-    /// One worker's number goes to a seat.
-    fn hand(&self, rest: &mut Unseated) -> BoardSeat
+    /// Splits a seat for one worker off `rest`, which must stand for at least two.
+    fn split_seat(&self, rest: &mut Unseated) -> BoardSeat
         requires some { 1 < rest.old.left }
         requires rest { IsLeft self.now rest.old.seat.table_id rest.old.seat.me rest.old.left }
         ensures count { rest.new.left + 1 ≡ rest.old.left }
@@ -220,6 +239,7 @@ impl Board {
         self.seat_of(seat)
     }
 
+    /// Wraps `seat`, which stands for one worker, as a board seat that has done nothing yet.
     fn seat_of(&self, seat: Seat<(), SeatView>) -> BoardSeat
         requires { IsLeft self.now seat.table_id seat.me 1 }
         ensures { result ≡ fresh_desk self.now }
@@ -232,6 +252,8 @@ impl Board {
         }
     }
 
+    /// Adds one to the number of refuted branches. The type `J` says in proofs that it is for
+    /// `branch`.
     fn add_refuted<J: About>(&self, seat: &mut BoardSeat, branch: u32)
         requires picked { J.branch ≡ branch }
         requires board { IsSeatOf self.now seat.old }
@@ -243,6 +265,7 @@ impl Board {
             .fetch_add::<Refute<J>>(&mut seat.seat, 1, 1);
     }
 
+    /// Adds one to the number of cut branches. The type `J` says in proofs that it is for `branch`.
     fn add_cut<J: About>(&self, seat: &mut BoardSeat, branch: u32)
         requires picked { J.branch ≡ branch }
         requires board { IsSeatOf self.now seat.old }
@@ -253,8 +276,9 @@ impl Board {
         self.table.shared.fetch_add::<Cut<J>>(&mut seat.seat, 2, 1);
     }
 
-    /// The first seat takes in what the others know. The number is that of the posts.
-    fn gather(&self, first: BoardSeat, seats: Vec<BoardSeat>) -> (Seat<(), SeatView>, u32)
+    /// Joins all `seats` into `first`, so that one seat knows what all of them did. Also returns
+    /// the total number of posts.
+    fn join_seats(&self, first: BoardSeat, seats: Vec<BoardSeat>) -> (Seat<(), SeatView>, u32)
         requires seats { AreSeats self.now (seats.items ++ first ∷ []) }
         requires room { length (seats.items ++ first ∷ []) * self.now.branches < 2 ^ 32 }
         ensures { (result.0.table_id ≡ self.now.table)
@@ -281,7 +305,7 @@ impl Board {
         (all, posts)
     }
 
-    /// The words at the end, where the seat has every worker's number.
+    /// Closes the board and returns its words. `all` must be the seat that stands for every worker.
     fn close(self, all: Seat<(), SeatView>) -> Words
         requires { (all.table_id ≡ self.table) × (length all.me.0.seen ≡ self.workers) }
         ensures { Ends self.branches self.workers all.me.0 result.least result.refuted result.cut }

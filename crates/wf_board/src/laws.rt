@@ -1,13 +1,15 @@
-//! What the board's steps are in the pool.
+//! Laws that relate the board's calls to the events of the pool in `wf_core`.
 
 ghost use Rattle.wf_board.specs.Shows.{StartIsShown, LookIsEvent, PostIsEvent, SearchedIsEvent, CutIsEvent};
 ghost use Rattle.wf_board.specs.Shows.{TakeIsShown, EndIsShown, FinishAnswersTheAccount};
 
-/// Each call of the board is one event of the pool of its name: whatever the table is between two
-/// steps, and whatever state of the pool it shows, the step leaves a table that shows the state
-/// after the event. The calls that settle a branch are so where their worker holds it. What a step
-/// leaves in the seat is said by the words that the calls' contracts use. To take a branch and to
-/// end are no calls, and leave what the table shows.
+/// States that each call of the board is the pool's event of the same name.
+///
+/// If the board's table represents some state of the pool before a call, then after the call it
+/// represents the state after the event. For the calls that settle a branch, the worker must hold
+/// that branch. The events of taking a branch and of ending have no call; they leave unchanged what
+/// the table represents. The clauses describe the seat after a call by the same definitions as the
+/// calls' contracts.
 pub fn calls_are_events()
     ensures start { StartIsShown }
     ensures look { LookIsEvent }
@@ -18,8 +20,9 @@ pub fn calls_are_events()
     ensures end { EndIsShown }
 {}
 
-/// Where the seats are those of a table that shows a state of the pool, in any order, `finish`
-/// answers that state's account: an account of which each clause of `finish` holds is no other.
+/// States that [`Board::finish`](crate::Board::finish) returns the account of the pool's state: if
+/// the seats, in any order, are those of a table that represents the state, then no other account
+/// satisfies all the clauses of `finish`.
 pub fn finish_answers_the_account()
     ensures { FinishAnswersTheAccount }
 {}

@@ -1,8 +1,9 @@
-//! The board: the least branch found and the count of work done, shared by all workers.
+//! The board: the least branch with a map and the counts of settled branches, shared by all
+//! workers.
 //!
-//! Three atomic words: the least posted branch, and the numbers of refuted
-//! and of cut branches. Each worker has a seat, and each call through it is
-//! one atomic step, with no lock, no memory and no second try.
+//! A [`Board`] consists of three atomic words: the least posted branch, and the numbers of refuted
+//! and of cut branches. Each worker has a [`BoardSeat`], and each call through it is one atomic
+//! step, without locks, allocation or retries. Only [`Board::make`] allocates.
 #![tactic(auto)]
 
 mod board;

@@ -11,10 +11,10 @@ use Rattle.wf_model.specs.Refutation as refutation
 use Rattle.wf_model.specs.Closing.{Step, and_then, keeps, take_out}
 use Rattle.wf_model.proofs.Lemmas.{Ascends, has-filter, count_set_less, each_has, filter_less}
 use Rattle.wf_complex.specs.Protocol.{point_in}
-use Rattle.wf_set.proofs.Lemmas.{by_two, set_at, values_ascend}
-use Rattle.wf_set.specs.Sets.{box_of, values_in}
-use Rattle.wf_lines.specs.Lines.{line_of}
-use Rattle.wf_lines.specs.declared.line.Line.{Line}
+use Rattle.wf_base.proofs.OfSet.Lemmas.{by_two, set_at, values_ascend}
+use Rattle.wf_base.specs.Set.Sets.{box_of, values_in}
+use Rattle.wf_base.specs.Lines.Lines.{line_of}
+use Rattle.wf_base.specs.declared.lines.line.Line.{Line}
 use Rattle.wf_box.specs.declared.taking.Occurrence.{Occurrence}
 use Rattle.wf_box.specs.Closes.{without_at, without_named}
 use Rattle.wf_box.specs.Steps.{IsNamed, loss, reached, removals, take_present}

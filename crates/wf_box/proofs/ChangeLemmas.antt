@@ -10,11 +10,11 @@ use Rattle.std.proofs.lemmas.Iterator.Adapters.{position_from-zero}
 use Rattle.wf_model.specs.Lists.{has}
 use Rattle.wf_model.specs.Box.{Box, candidates, count, first_open}
 use Rattle.wf_model.proofs.Lemmas.{only as only_value}
-use Rattle.wf_set.specs.Sets.{box_of, values_in}
+use Rattle.wf_base.specs.Set.Sets.{box_of, values_in}
 use Rattle.wf_box.specs.Changes.{IsGrown, IsTracked, IsUndone, taken_back, words_after}
 use Rattle.wf_box.specs.declared.tracked.Change.{Change}
 use Rattle.wf_box.proofs.TakingLemmas.{set_there}
-use Rattle.wf_set.proofs.Lemmas.{set_at}
+use Rattle.wf_base.proofs.OfSet.Lemmas.{set_at}
 
 pub back_more : (cs ds : List Change) (words : List (List ℕ)) → taken_back (cs ++ ds) words ≡ taken_back cs (taken_back ds words)
 back_more [] ds words = refl

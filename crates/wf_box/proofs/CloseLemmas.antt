@@ -11,9 +11,9 @@ use Rattle.wf_model.specs.Refutation as refutation
 use Rattle.wf_model.specs.Closing.{Step, and_then, closing, closing_at, sweep, sweeps}
 use Rattle.wf_model.specs.Laws.{IsBoxOf}
 use Rattle.wf_model.proofs.Lemmas.{is_ascending_from, closed_branch}
-use Rattle.wf_lines.specs.declared.line.Line.{Line}
-use Rattle.wf_set.specs.Sets.{box_of, values_in}
-use Rattle.wf_set.proofs.Lemmas.{values_ascend}
+use Rattle.wf_base.specs.declared.lines.line.Line.{Line}
+use Rattle.wf_base.specs.Set.Sets.{box_of, values_in}
+use Rattle.wf_base.proofs.OfSet.Lemmas.{values_ascend}
 use Rattle.wf_box.specs.Changes.{taken_back, words_after}
 use Rattle.wf_box.specs.Quiet.{WasClosed}
 use Rattle.wf_box.specs.declared.tracked.Change.{Change}

@@ -7,9 +7,9 @@ use Rattle.std.proofs.lemmas.Bool.{cases_eq, eq-eqb, le-ltb, lt-ltb, ne_eqb, and
 use Rattle.std.proofs.lemmas.List.{length-map}
 use Rattle.std.proofs.lemmas.List.Sums.{position_or_len_is}
 use Rattle.wf_model.proofs.Lemmas.{length_filter, suc_not_zero}
-use Rattle.wf_set.specs.Parts.{part_limit, part_values}
-use Rattle.wf_set.specs.Sets.{values_in}
-use Rattle.wf_set.proofs.Lemmas.{length-values_in, part_of, values_of_first}
+use Rattle.wf_base.specs.Set.Parts.{part_limit, part_values}
+use Rattle.wf_base.specs.Set.Sets.{values_in}
+use Rattle.wf_base.proofs.OfSet.Lemmas.{length-values_in, part_of, values_of_first}
 use Rattle.wf_box.specs.Kept.{is_narrow}
 
 -- ---- a test that each value passes

@@ -11,7 +11,7 @@ use Rattle.wf_model.specs.Problem.{Constraint, no_constraint}
 use Rattle.wf_model.specs.Box.{Box, candidates, first_empty, is_supported, sets_of}
 use Rattle.wf_model.specs.Closing.{Step, Loss, and_then, lost, lost_at, places, same_candidate, sweep_from, take_out_each, taken_out}
 use Rattle.wf_model.specs.Lists.{distinct}
-use Rattle.wf_set.specs.Sets.{box_of, values_in}
+use Rattle.wf_base.specs.Set.Sets.{box_of, values_in}
 use Rattle.wf_network.specs.Marks.{bit_of, IsMore, IsNext, MarksEach}
 use Rattle.wf_network.specs.Problems.{IsWithin, constraint_seen}
 use Rattle.wf_box.specs.Quiet.{IsQuiet, IsQuietBut, IsUntouched, IsUntouchedBut}
@@ -21,14 +21,14 @@ use Rattle.wf_box.specs.Steps.{reached}
 use Rattle.wf_network.specs.declared.problem.Rule.{Rule}
 use Rattle.wf_complex.specs.declared.packed.PackedExecution.{PackedExecution}
 use Rattle.wf_network.specs.declared.users.Users.{Users}
-use Rattle.wf_lines.specs.Lines.{line_of}
-use Rattle.wf_lines.specs.declared.line.Line.{Line}
+use Rattle.wf_base.specs.Lines.Lines.{line_of}
+use Rattle.wf_base.specs.declared.lines.line.Line.{Line}
 use Rattle.wf_box.proofs.StepLemmas.{then_keeps, then_then}
 use Rattle.std.specs.Prelude.{◌==◌}
 use Rattle.std.proofs.lemmas.List.Elements.{All-from_recursion}
 use Rattle.wf_model.proofs.Lemmas.{position_none, sweep_nothing}
 use Rattle.wf_box.proofs.CloseLemmas.{empty_there, point_there}
-use Rattle.wf_set.proofs.Lemmas.{set_at}
+use Rattle.wf_base.proofs.OfSet.Lemmas.{set_at}
 
 -- a word with an execution is there
 word_there : (ws : List MarkMask) (k e : ℕ) → HasBit (get_or ws k no_word) e → k < length ws

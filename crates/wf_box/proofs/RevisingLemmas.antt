@@ -1,9 +1,9 @@
 -- An execution that loses nothing, and the answers that were kept meanwhile.
 use Rattle.std.proofs.Common.{None, Vec, ℕ, refl}
 use Rattle.wf_lane.specs.Table.{HasSupported}
-use Rattle.wf_lines.specs.declared.line.Line.{Line}
+use Rattle.wf_base.specs.declared.lines.line.Line.{Line}
 use Rattle.wf_network.specs.Revising.{AreKnown, answers_in, found_in}
-use Rattle.wf_network.specs.declared.memo.Memo.{Memo}
+use Rattle.wf_network.specs.declared.memo.SupportCache.{SupportCache}
 use Rattle.wf_network.specs.Problems.{constraints_in, rule_in}
 use Rattle.wf_network.specs.declared.problem.Network.{Network}
 use Rattle.wf_network.proofs.Lemmas.{few_at, rule_known, within_now}
@@ -14,7 +14,7 @@ use Rattle.wf_box.proofs.PlaceLemmas.{keeps_all, loses_nothing}
 use Rattle.wf_box.proofs.WorkLemmas.{proceeds_known}
 
 -- with other answers that are right it is revised as before
-pub revising_still : {A : Type 0} (n : Network) (e : ℕ) (lines : Vec Line A) (w : Workspace) (memo : Memo) → IsRevising n e lines w → AreKnown (constraints_in n) (answers_in memo)
+pub revising_still : {A : Type 0} (n : Network) (e : ℕ) (lines : Vec Line A) (w : Workspace) (memo : SupportCache) → IsRevising n e lines w → AreKnown (constraints_in n) (answers_in memo)
     → IsRevising n e lines (record { tracked = w.tracked; marks = w.marks; memo = memo })
 revising_still n e lines w memo is known = record {
   network = is.network;
@@ -23,7 +23,7 @@ revising_still n e lines w memo is known = record {
 }
 
 -- where all candidates are supported nothing is to be done
-pub revises_none : {A : Type 0} (n : Network) (e : ℕ) (lines : Vec Line A) (w : Workspace) (memo : Memo) → IsRevising n e lines w → AreKnown (constraints_in n) (answers_in memo)
+pub revises_none : {A : Type 0} (n : Network) (e : ℕ) (lines : Vec Line A) (w : Workspace) (memo : SupportCache) → IsRevising n e lines w → AreKnown (constraints_in n) (answers_in memo)
     → HasSupported (found_in n e w.tracked.words.items) (rule_in n e).table (found_in n e w.tracked.words.items) → Revises n e lines w lines (record { tracked = w.tracked; marks = w.marks; memo = memo }) None
 revises_none n e lines w memo is known supported =
     let words = w.tracked.words.items in

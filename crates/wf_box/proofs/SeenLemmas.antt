@@ -7,23 +7,23 @@ use Rattle.wf_model.specs.Problem.{Constraint, Problem}
 use Rattle.wf_model.specs.Box.{Box, first_empty}
 use Rattle.wf_model.specs.Closing.{sweep}
 use Rattle.wf_model.specs.Laws.{IsBoxOf}
-use Rattle.wf_set.specs.Sets.{box_of, values_in}
+use Rattle.wf_base.specs.Set.Sets.{box_of, values_in}
 use Rattle.wf_box.specs.Changes.{IsGrown, taken_back, words_after}
 use Rattle.wf_box.specs.Quiet as quiet
 use Rattle.wf_network.specs.Revising.{AreKnown}
 use Rattle.wf_box.specs.Boxes.{Grows, IsFor, Tracked, Was, WasClosed, box_after, change_seen, closed_if, put_back}
-use Rattle.wf_network.specs.declared.memo.Revised.{Revised}
+use Rattle.wf_network.specs.declared.memo.CacheEntry.{CacheEntry}
 use Rattle.wf_box.specs.declared.tracked.Change.{Change}
 
 -- the sets as the box that a clause sees
-abbrev pub tracked_seen : List (List ℕ) → List Change → Option ℕ → List (Option Revised) → Tracked
+abbrev pub tracked_seen : List (List ℕ) → List Change → Option ℕ → List (Option CacheEntry) → Tracked
 tracked_seen words trail closed known = record { sets = box_of words; trail = map change_seen trail; closed = closed; known = known }
 
 pub back_seen : (cs : List Change) (words : List (List ℕ)) → box_of (taken_back cs words) ≡ put_back (map change_seen cs) (box_of words)
 back_seen [] words = refl
 back_seen (c ∷ cs) words = map-set values_in (taken_back cs words) c.point c.before ∙ ap (λ b. slice_set b c.point (values_in c.before)) (back_seen cs words)
 
-pub after_seen : (n : ℕ) (trail : List Change) (words : List (List ℕ)) (closed : Option ℕ) (known : List (Option Revised)) → box_of (words_after n trail words) ≡ box_after n (tracked_seen words trail closed known)
+pub after_seen : (n : ℕ) (trail : List Change) (words : List (List ℕ)) (closed : Option ℕ) (known : List (Option CacheEntry)) → box_of (words_after n trail words) ≡ box_after n (tracked_seen words trail closed known)
 after_seen n trail words closed known = back_seen (drop n trail) words ∙ ap (λ ws. put_back ws (box_of words)) (sym (drop-map change_seen n trail))
 
 -- no answer is kept
@@ -36,7 +36,7 @@ pub put_more : (xs ys : List Was) (box : Box) → put_back (xs ++ ys) box ≡ pu
 put_more [] ys box = refl
 put_more (x ∷ xs) ys box = ap (λ b. slice_set b x.point x.set) (put_more xs ys box)
 
-pub grown_seen : (words : List (List ℕ)) (trail : List Change) (fewer : List (List ℕ)) (more : List Change) (before after : Option ℕ) (known newer : List (Option Revised)) → IsGrown words trail fewer more → Grows (tracked_seen words trail before known) (tracked_seen fewer more after newer)
+pub grown_seen : (words : List (List ℕ)) (trail : List Change) (fewer : List (List ℕ)) (more : List Change) (before after : Option ℕ) (known newer : List (Option CacheEntry)) → IsGrown words trail fewer more → Grows (tracked_seen words trail before known) (tracked_seen fewer more after newer)
 grown_seen words trail fewer more before after known newer grown = record {
   added = map change_seen grown.added;
   trail_is = ap (map change_seen) grown.trail_is ∙ map-append change_seen trail grown.added;
@@ -74,21 +74,21 @@ still_for p old new grown same memo is_box is = record {
 
 -- ---- closed boxes
 
-pub was_seen : (p : Problem) (trail : List Change) (words : List (List ℕ)) (closed : Option ℕ) (known : List (Option Revised)) (n : ℕ) → quiet.WasClosed p trail words n → WasClosed p (tracked_seen words trail closed known) n
+pub was_seen : (p : Problem) (trail : List Change) (words : List (List ℕ)) (closed : Option ℕ) (known : List (Option CacheEntry)) (n : ℕ) → quiet.WasClosed p trail words n → WasClosed p (tracked_seen words trail closed known) n
 was_seen p trail words closed known n was = record {
   within = omega (arith, was.within, length-map trail change_seen);
   filled = ap first_empty (sym (after_seen n trail words closed known)) ∙ was.filled;
   closed = ap (λ b. (sweep p b).lines) (sym (after_seen n trail words closed known)) ∙ was.closed;
 }
 
-pub seen_was : (p : Problem) (trail : List Change) (words : List (List ℕ)) (closed : Option ℕ) (known : List (Option Revised)) (n : ℕ) → WasClosed p (tracked_seen words trail closed known) n → quiet.WasClosed p trail words n
+pub seen_was : (p : Problem) (trail : List Change) (words : List (List ℕ)) (closed : Option ℕ) (known : List (Option CacheEntry)) (n : ℕ) → WasClosed p (tracked_seen words trail closed known) n → quiet.WasClosed p trail words n
 seen_was p trail words closed known n was = record {
   within = omega (arith, was.within, length-map trail change_seen);
   filled = ap first_empty (after_seen n trail words closed known) ∙ was.filled;
   closed = ap (λ b. (sweep p b).lines) (after_seen n trail words closed known) ∙ was.closed;
 }
 
-pub if_was : (p : Problem) (trail : List Change) (words : List (List ℕ)) (closed : Option ℕ) (known : List (Option Revised)) → IfSome closed (WasClosed p (tracked_seen words trail closed known)) → IfSome closed (quiet.WasClosed p trail words)
+pub if_was : (p : Problem) (trail : List Change) (words : List (List ℕ)) (closed : Option ℕ) (known : List (Option CacheEntry)) → IfSome closed (WasClosed p (tracked_seen words trail closed known)) → IfSome closed (quiet.WasClosed p trail words)
 if_was p trail words closed known was = if_some (WasClosed p (tracked_seen words trail closed known)) (quiet.WasClosed p trail words) closed (λ n w. seen_was p trail words closed known n w) was
 
 -- ---- taking back

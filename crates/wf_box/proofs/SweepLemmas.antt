@@ -5,9 +5,9 @@ use Rattle.wf_model.specs.Problem.{Problem}
 use Rattle.wf_model.specs.Box.{Box, count}
 use Rattle.wf_model.specs.Refutation as refutation
 use Rattle.wf_model.specs.Closing.{Step, and_then, continued, sweep, sweeps, unless_none}
-use Rattle.wf_lines.specs.Lines.{line_of}
-use Rattle.wf_lines.specs.declared.line.Line.{Line}
-use Rattle.wf_set.specs.Sets.{box_of, values_in}
+use Rattle.wf_base.specs.Lines.Lines.{line_of}
+use Rattle.wf_base.specs.declared.lines.line.Line.{Line}
+use Rattle.wf_base.specs.Set.Sets.{box_of, values_in}
 use Rattle.wf_box.specs.Closes.{more_sweeps, sweep_count}
 use Rattle.wf_box.specs.Steps.{reached}
 use Rattle.wf_lane.proofs.Lemmas.{few_values}

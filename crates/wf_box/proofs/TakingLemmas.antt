@@ -9,12 +9,12 @@ use Rattle.wf_model.specs.Box.{Box, candidates, without, count}
 use Rattle.wf_model.specs.Refutation as refutation
 use Rattle.wf_model.specs.Closing.{Step, Loss, and_then, taken_out, take_out}
 use Rattle.wf_model.proofs.Lemmas.{has-filter, count_set_less, filter_less}
-use Rattle.wf_set.specs.Parts.{part_values}
-use Rattle.wf_set.specs.Sets.{box_of, values_in}
-use Rattle.wf_set.proofs.Lemmas.{values_small, values_of_part, set_at}
-use Rattle.wf_lines.specs.Lines.{line_of}
-use Rattle.wf_lines.specs.declared.line.Line.{Line}
-use Rattle.wf_lines.specs.declared.line.Line.TheVariants as line
+use Rattle.wf_base.specs.Set.Parts.{part_values}
+use Rattle.wf_base.specs.Set.Sets.{box_of, values_in}
+use Rattle.wf_base.proofs.OfSet.Lemmas.{values_small, values_of_part, set_at}
+use Rattle.wf_base.specs.Lines.Lines.{line_of}
+use Rattle.wf_base.specs.declared.lines.line.Line.{Line}
+use Rattle.wf_base.specs.declared.lines.line.Line.TheVariants as line
 use Rattle.wf_network.specs.Revising.{wide_set}
 use Rattle.wf_box.specs.Steps.{reached, loss}
 

@@ -3,8 +3,8 @@ use Rattle.std.proofs.Common.{◌≡◌, ◌<◌, ◌∙◌, ℕ, List, length, 
 use Rattle.std.specs.Bool.{OnFalse, OnTrue}
 use Rattle.std.specs.List.{slice_index_or}
 use Rattle.wf_model.specs.Problem.{Constraint}
-use Rattle.wf_set.specs.Sets.{box_of}
-use Rattle.wf_lines.specs.declared.line.Line.{Line}
+use Rattle.wf_base.specs.Set.Sets.{box_of}
+use Rattle.wf_base.specs.declared.lines.line.Line.{Line}
 use Rattle.wf_box.specs.Changes.{sets_in}
 use Rattle.wf_box.specs.Closes.{EndsAt, IsEmptied, emptied_by}
 use Rattle.wf_lane.specs.Table.{HasSupported}
@@ -15,7 +15,7 @@ use Rattle.wf_box.specs.Working.{Ends, IsWorking, Proceeds}
 use Rattle.wf_box.specs.declared.closing.Closed.{Closed}
 use Rattle.wf_box.specs.declared.closing.Closed.TheVariants.{Empty, Open}
 use Rattle.wf_network.specs.declared.marks.Marks.{Marks}
-use Rattle.wf_network.specs.declared.memo.Memo.{Memo}
+use Rattle.wf_network.specs.declared.memo.SupportCache.{SupportCache}
 use Rattle.wf_complex.specs.declared.packed.PackedExecution.{PackedExecution}
 use Rattle.wf_network.specs.declared.problem.Network.{Network}
 use Rattle.wf_box.specs.declared.tracked.Tracked.{Tracked}
@@ -35,7 +35,7 @@ proceeds_none points executions lines w working = record {
 }
 
 -- nothing was done yet but that other answers are kept
-pub proceeds_known : {A : Type 0} {ks : List Constraint} (points executions : ℕ) (lines : Vec Line A) (w : Workspace) (memo : Memo) → AreKnown ks (answers_in memo) → IsWorking points executions ks lines w
+pub proceeds_known : {A : Type 0} {ks : List Constraint} (points executions : ℕ) (lines : Vec Line A) (w : Workspace) (memo : SupportCache) → AreKnown ks (answers_in memo) → IsWorking points executions ks lines w
     → Proceeds points executions ks lines w.tracked lines (record { tracked = w.tracked; marks = w.marks; memo = memo }) None
 proceeds_known points executions lines w memo known working = record {
   kept = working.kept;

@@ -6,12 +6,12 @@ use Rattle.wf_model.specs.Problem.{Problem}
 use Rattle.wf_model.specs.Box.{Box, first_empty}
 use Rattle.wf_model.specs.Closing.{sweep}
 use Rattle.wf_model.specs.Laws.{IsBoxOf}
-use Rattle.wf_set.specs.Sets.{box_of, values_in}
+use Rattle.wf_base.specs.Set.Sets.{box_of, values_in}
 use Rattle.wf_box.specs.Changes.{KeepsTrack}
 use Rattle.wf_box.specs.Kept.{box_kept}
 use Rattle.wf_network.specs.Revising.{AreKnown, answers_in}
 use Rattle.wf_model.specs.Limits.{most_points}
-use Rattle.wf_network.specs.declared.memo.Revised.{Revised}
+use Rattle.wf_network.specs.declared.memo.CacheEntry.{CacheEntry}
 use Rattle.wf_box.specs.declared.tracked.Change.{Change}
 use Rattle.wf_box.specs.declared.boxed.Box0.TheInside.{Inside}
 use Rattle.wf_box.specs.declared.snapshot.Snapshot.TheInside as snapshot
@@ -29,7 +29,7 @@ pub record Tracked : Type 0 where
   pub sets : Box
   pub trail : List Was
   pub closed : Option ℕ
-  pub known : List (Option Revised)
+  pub known : List (Option CacheEntry)
 
 -- ---- taking back
 
@@ -63,11 +63,11 @@ pub record IsFor (p : Problem) (b : Tracked) : Type 0 where
   pub known : AreKnown p.constraints b.known
 
 -- the answers are right for the problem
-abbrev pub ServeFor : Problem → List (Option Revised) → Type 0
+abbrev pub ServeFor : Problem → List (Option CacheEntry) → Type 0
 ServeFor p answers = AreKnown p.constraints answers
 
 -- the box with other answers
-abbrev pub with_known : Tracked → List (Option Revised) → Tracked
+abbrev pub with_known : Tracked → List (Option CacheEntry) → Tracked
 with_known b known = record { sets = b.sets; trail = b.trail; closed = b.closed; known = known }
 
 -- so many changes if the test holds

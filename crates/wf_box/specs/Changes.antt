@@ -2,7 +2,7 @@
 use Rattle.std.specs.Prelude.{◌≡◌, ◌<◌, ◌≤◌, ◌+◌, ℕ, vec_capacity, List, [], ◌∷◌, ◌++◌, length, get_or, drop, All}
 use Rattle.std.specs.List.{slice_set}
 use Rattle.wf_model.specs.Box.{Box, candidates, count}
-use Rattle.wf_set.specs.Sets.{box_of, values_in}
+use Rattle.wf_base.specs.Set.Sets.{box_of, values_in}
 use Rattle.wf_model.specs.Limits.{most_points}
 use Rattle.wf_box.specs.Limits.{most_candidates}
 use Rattle.wf_box.specs.declared.tracked.Change.{Change}

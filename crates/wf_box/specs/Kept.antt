@@ -2,11 +2,11 @@
 use Rattle.std.specs.Prelude.{◌≡◌, ℕ, nat_le, nat_lt, Bool, true, false, List, filter, map}
 use Rattle.std.specs.List.{list_all}
 use Rattle.wf_model.specs.Box.{Box}
-use Rattle.wf_set.specs.Parts.{part_limit, part_values}
-use Rattle.wf_set.specs.Sets.{box_of}
+use Rattle.wf_base.specs.Set.Parts.{part_limit, part_values}
+use Rattle.wf_base.specs.Set.Sets.{box_of}
 use Rattle.wf_box.specs.declared.kept.KeptSets.{KeptSets}
 use Rattle.wf_box.specs.declared.kept.KeptSets.TheVariants.{Bytes, Narrow, Wide}
-use Rattle.wf_box.specs.declared.kept.TheConstants.{MOST_OF_A_BYTE}
+use Rattle.wf_box.specs.declared.kept.TheConstants.{MAX_OF_A_BYTE}
 
 -- whether each value of the set has its bit in the first machine word
 abbrev pub is_narrow : List ℕ → Bool
@@ -21,7 +21,7 @@ low_values box = map (filter (λ v. nat_lt v part_limit)) box
 
 -- whether each part has a byte's values alone: as a number it is below 256
 abbrev pub are_bytes : List ℕ → Bool
-are_bytes parts = list_all (λ part. nat_le part MOST_OF_A_BYTE) parts
+are_bytes parts = list_all (λ part. nat_le part MAX_OF_A_BYTE) parts
 
 -- the values of each set
 abbrev pub box_kept : KeptSets → Box

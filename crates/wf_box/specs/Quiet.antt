@@ -4,7 +4,7 @@ use Rattle.wf_model.specs.Problem.{Problem, Constraint, no_constraint}
 use Rattle.wf_model.specs.Box.{Box, first_empty}
 use Rattle.wf_model.specs.Closing.{lost, sweep}
 use Rattle.wf_network.specs.Marks.{bit_of}
-use Rattle.wf_set.specs.Sets.{box_of, values_in}
+use Rattle.wf_base.specs.Set.Sets.{box_of, values_in}
 use Rattle.wf_box.specs.Changes.{sets_in, words_after, words_at}
 use Rattle.wf_box.specs.declared.tracked.Change.{Change}
 use Rattle.wf_box.specs.declared.tracked.Tracked.{Tracked}

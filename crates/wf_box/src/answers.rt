@@ -1,4 +1,4 @@
-//! Answers of the kernel that outlive a box.
+//! The kernel cache as a value of its own, which can outlive the box that filled it.
 
 ghost use Rattle.std.specs.Prelude.{◌≡◌, []};
 ghost use Rattle.wf_model.specs.Problem.{Problem};
@@ -8,42 +8,43 @@ use crate::boxed::Box0;
 use std::alloc::Global;
 use std::marker::Model;
 use std::mem;
-use wf_network::Memo;
+use wf_network::SupportCache;
 
-/// What closing has found out about a problem: a box keeps it, and may leave it to the next box of
-/// the same problem. No result rests on it, and it saves time alone.
+/// The kernel cache of a box, which can be passed on to the next box of the same problem. It only
+/// saves time: no result depends on what is cached.
 ///
-/// A clause sees it as the list of the answers.
+/// A clause sees it as the list of the cached results.
 #[derive(Drop)]
-pub struct KernelCache {
-    memo: Memo,
+pub struct BoxCache {
+    memo: SupportCache,
 }
 
-impl Model for KernelCache {
+impl Model for BoxCache {
     ghost use Rattle.std.specs.Prelude.{List, Option};
     ghost use Rattle.wf_network.specs.Revising.{answers_in};
-    ghost use Rattle.wf_network.specs.declared.memo.Revised.{Revised};
+    ghost use Rattle.wf_network.specs.declared.memo.CacheEntry.{CacheEntry};
 
-    ghost Value = { List (Option Revised) };
+    ghost Value = { List (Option CacheEntry) };
 
     ghost view = { λ a. answers_in a.memo };
 }
 
-impl KernelCache {
-    /// No answer. It takes no memory.
-    pub fn new(alloc: Global) -> KernelCache
+impl BoxCache {
+    /// Creates an empty cache.
+    pub fn new(alloc: Global) -> BoxCache
         ensures none { result ≡ [] }
         ensures serve { (p : Problem) → ServeFor p result }
     {
-        KernelCache {
-            memo: Memo::new(alloc),
+        BoxCache {
+            memo: SupportCache::new(alloc),
         }
     }
 }
 
 impl Box0 {
-    /// Gives the box these answers, in exchange for those that it has. It takes no memory.
-    pub fn swap_answers(&mut self, answers: &mut KernelCache)
+    /// Swaps the kernel cache of the box with `answers`. The box can be closed for its problem
+    /// afterwards if `answers` has only results of the same problem.
+    pub fn swap_cache(&mut self, answers: &mut BoxCache)
         ensures same { self.new ≡ with_known self.old answers.old }
         ensures is { (p : Problem) → ServeFor p answers.old → IsFor p self.old → IsFor p self.new }
         ensures serve { (p : Problem) → IsFor p self.old → ServeFor p answers.new }

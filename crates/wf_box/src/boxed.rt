@@ -1,11 +1,11 @@
-//! Boxes.
+//! The box type: candidates for each point, with a trail for undoing.
 
 ghost use Rattle.std.specs.Prelude.{◌≡◌, ◌≢◌, ◌<◌, ◌≤◌, [], true, None, Some, length, take, IfOk};
 ghost use Rattle.std.specs.Bool.{OnFalse, OnTrue};
 ghost use Rattle.wf_model.specs.Lists.{has};
 ghost use Rattle.wf_model.specs.Box.{candidates, decided, first_empty, first_open, root};
 ghost use Rattle.wf_model.specs.Problem.{IsWellFormed, Problem};
-ghost use Rattle.wf_set.specs.Sets.{box_of, values_in};
+ghost use Rattle.wf_base.specs.Set.Sets.{box_of, values_in};
 ghost use Rattle.wf_box.specs.Boxes.{Grows, IsFor, WasClosed, box_after, closed_if};
 ghost use Rattle.wf_box.specs.Least.{least_values};
 ghost use Rattle.wf_model.specs.Limits.{most_points};
@@ -16,19 +16,19 @@ use crate::tracked::Tracked;
 use crate::workspace::Workspace;
 use std::alloc::{AllocError, Global};
 use std::marker::Model;
-use wf_network::{Marks, Memo, Problem};
-use wf_set::{Mask, first};
+use wf_base::set::{Mask, first};
+use wf_network::{Marks, Problem, SupportCache};
 
-/// A box: a set of values, its candidates, for each point. It keeps a trail of its changes, so that
-/// it can be given an earlier state again: [`Box0::mark`] and [`Box0::undo`].
+/// A box: a set of candidates for each point. It keeps a trail of its changes, so that an earlier
+/// state can be restored; see [`Box0::mark`] and [`Box0::undo`].
 ///
-/// A clause sees it as the list of the points' candidates, each ascending, with the changes since
-/// it was made, the last one last, after how many of these it was closed last, and the answers of
-/// the kernel that it keeps.
+/// A clause sees it as the list of the points' candidates, each set ascending; its changes since it
+/// was made, the last one last; the number of changes after which it was last closed; and the
+/// cached results of the kernel.
 #[derive(Drop)]
 pub struct Box0 {
     pub(crate) workspace: Workspace,
-    // after how many changes it was closed last; none where that is not known
+    // number of changes after which the box was last closed; `None` if that is not known
     pub(crate) closed: Option<u32>,
 }
 
@@ -42,18 +42,22 @@ impl Model for Box0 {
     ghost invariant = { IsKeptBox };
 }
 
-/// A state of a box, which [`Box0::undo`] gives it again as long as no
-/// earlier one was given it in between.
+/// A state of a box on its trail. [`Box0::undo`] restores it, unless the box was undone to an older
+/// mark since.
 #[derive(Clone, Copy, Debug)]
 pub struct Mark {
-    /// How many changes the box had.
+    /// Number of changes on the trail.
     pub changes: u32,
-    /// Whether nothing had changed since it was closed.
+    /// Whether nothing had changed since the box was last closed.
     pub is_closed: bool,
 }
 
 impl Box0 {
-    /// The root box of a problem: each point has all values.
+    /// Creates the root box of `problem`: each point has all values as candidates.
+    ///
+    /// # Errors
+    ///
+    /// Returns `AllocError` if memory runs out.
     pub fn root(alloc: Global, problem: &Problem) -> Result<Box0, AllocError>
         ensures root { IfOk result (λ boxed. boxed.sets ≡ root problem.now) }
         ensures fresh { IfOk result (λ boxed. boxed.trail ≡ []) }
@@ -66,13 +70,18 @@ impl Box0 {
             workspace: Workspace {
                 tracked: Tracked::new(alloc, words)?,
                 marks: Marks::new(alloc),
-                memo: Memo::new(alloc),
+                memo: SupportCache::new(alloc),
             },
             closed: None,
         })
     }
 
-    /// A copy of the box, with no change to take back.
+    /// Copies the candidates to a new box with an empty trail and an empty kernel cache. The copy
+    /// counts as closed if this box does.
+    ///
+    /// # Errors
+    ///
+    /// Returns `AllocError` if memory runs out.
     pub fn copy(&self, alloc: Global) -> Result<Box0, AllocError>
         ensures sets { IfOk result (λ boxed. boxed.sets ≡ self.now.sets) }
         ensures fresh { IfOk result (λ boxed. boxed.trail ≡ []) }
@@ -87,14 +96,17 @@ impl Box0 {
             workspace: Workspace {
                 tracked: Tracked::new(alloc, words)?,
                 marks: Marks::new(alloc),
-                memo: Memo::new(alloc),
+                memo: SupportCache::new(alloc),
             },
             closed: if self.is_closed() { Some(0) } else { None },
         })
     }
 
-    /// Its candidates as they are now, in no more memory than they need.
-    /// Refused for want of memory alone.
+    /// Copies the candidates to a [`Snapshot`], which needs less memory than a box.
+    ///
+    /// # Errors
+    ///
+    /// Returns `AllocError` if memory runs out.
     pub fn keep(&self, alloc: Global) -> Result<Snapshot, AllocError>
         ensures sets { IfOk result (λ kept. kept.sets ≡ self.now.sets) }
         ensures fresh { IfOk result (λ kept. kept.trail ≡ []) }
@@ -112,7 +124,7 @@ impl Box0 {
         })
     }
 
-    /// Whether nothing changed since it was closed.
+    /// Returns whether nothing changed since the box was last closed.
     fn is_closed(&self) -> bool
         ensures closed { OnTrue result (self.now.closed ≡ Some (length self.now.trail)) }
         ensures open { OnFalse result (self.now.closed ≢ Some (length self.now.trail)) }
@@ -123,7 +135,7 @@ impl Box0 {
         }
     }
 
-    /// The state that it has. It takes no memory.
+    /// Returns a mark of the present state, for [`Box0::undo`].
     pub fn mark(&self) -> Mark
         ensures changes { result.changes ≡ length self.now.trail }
         ensures closed { OnTrue result.is_closed (self.now.closed ≡ Some (length self.now.trail)) }
@@ -135,7 +147,8 @@ impl Box0 {
         }
     }
 
-    /// Takes back all changes since the mark was given. It takes no memory.
+    /// Undoes all changes since `mark` was made. The kernel cache stays. `mark` must be one of this
+    /// box, and the box must not have been undone to an older mark since.
     pub fn undo(&mut self, mark: Mark)
         requires { mark.changes ≤ length self.old.trail }
         ensures sets { self.new.sets ≡ box_after mark.changes self.old }
@@ -153,7 +166,7 @@ impl Box0 {
         self.workspace.marks.clear();
     }
 
-    /// Leaves a point one of its candidates. It takes no memory.
+    /// Reduces the candidates of `point` to `value`, which must be one of them.
     pub fn set(&mut self, point: u32, value: u8)
         requires { has (candidates self.old.sets point) value ≡ true }
         ensures decided { self.new.sets ≡ decided self.old.sets point value }
@@ -164,7 +177,7 @@ impl Box0 {
         self.workspace.tracked.set(point, value);
     }
 
-    /// The candidates of a point. It takes no memory.
+    /// Returns the candidates of `point`.
     pub fn candidates(&self, point: u32) -> Mask
         requires { point < length self.now.sets }
         ensures { values_in result ≡ candidates self.now.sets point }
@@ -172,7 +185,7 @@ impl Box0 {
         self.workspace.tracked.words[point as usize]
     }
 
-    /// How many points it has. It takes no memory.
+    /// Returns the number of points.
     pub fn points(&self) -> u32
         ensures points { result ≡ length self.now.sets }
         ensures few { result ≤ most_points }
@@ -180,25 +193,29 @@ impl Box0 {
         self.workspace.tracked.words.len() as u32
     }
 
-    /// The first point with two candidates or more; none where each point has
-    /// one at most. It takes no memory.
+    /// Returns the first point that has two candidates or more, or `None` if each point has at most
+    /// one.
     pub fn first_open(&self) -> Option<u32>
         ensures { result ≡ first_open self.now.sets }
     {
         self.workspace.tracked.first_open()
     }
 
-    /// The first point with two candidates or more; none if each point has one at most. The next
-    /// search for such a point starts there. It takes no memory.
-    pub fn find_open(&mut self) -> Option<u32>
+    /// Returns the first point that has two candidates or more, or `None` if each point has at most
+    /// one. It also remembers that point, and the next search for one starts there.
+    pub fn advance_to_open(&mut self) -> Option<u32>
         ensures found { result ≡ first_open self.old.sets }
         ensures same { self.new ≡ self.old }
     {
-        self.workspace.tracked.find_open()
+        self.workspace.tracked.advance_to_open()
     }
 
-    /// The least candidate of each point, which has to have one: in a decided box its only one.
-    /// Refused for want of memory alone.
+    /// Returns the least candidate of each point. Each point must have one. In a closed box with
+    /// one candidate at each point these values are a decision map.
+    ///
+    /// # Errors
+    ///
+    /// Returns `AllocError` if memory runs out.
     pub fn least_values(&self, alloc: Global) -> Result<Vec<u8>, AllocError>
         requires filled { first_empty self.now.sets ≡ None }
         ensures values { IfOk result (λ values. values.items ≡ least_values self.now.sets) }
@@ -207,7 +224,7 @@ impl Box0 {
     }
 }
 
-/// The least value of each set.
+/// Returns the least value of each of `sets`, none of which may be empty.
 fn least_each(alloc: Global, sets: &[Mask]) -> Result<Vec<u8>, AllocError>
     requires { first_empty (box_of sets.now) ≡ None }
     ensures { IfOk result (λ values. values.items ≡ least_values (box_of sets.now)) }

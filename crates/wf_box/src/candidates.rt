@@ -1,42 +1,44 @@
-//! Candidates in one word or in four for each point, from which the same functions take out.
+//! Candidate sets of one machine word or of four, behind traits, so that one piece of code removes
+//! values from either.
 
 ghost use Rattle.std.specs.Prelude.{◌≡◌, ◌≢◌, ◌<◌, ◌≤◌, ◌==◌, ◌∷◌, [], not, filter, get_or, length, All, MatchOption};
 ghost use Rattle.std.specs.Bool.{OnFalse, OnTrue};
 ghost use Rattle.wf_model.specs.Lists.{has};
-ghost use Rattle.wf_set.specs.Sets.{values_in};
+ghost use Rattle.wf_base.specs.Set.Sets.{values_in};
 ghost use Rattle.wf_network.specs.Revising.{AreSame, found_at, wide_set, widened};
 
+use wf_base::set::set64::{self, Set64};
+use wf_base::set::{Mask, difference, intersection, is_empty, low_set64, split_first};
 use wf_network::{PackedExecution, candidates_at, narrowed};
-use wf_set::part::{self, Part};
-use wf_set::{Mask, difference, first_part, is_empty, meet, split_first};
 
 /// A set of candidates of one point.
 pub(crate) trait ValueSet: Copy {
     ghost use Rattle.std.specs.Prelude.{ℕ, List};
 
-    // the same set in four words
+    // the same set as four words
     ghost wide: { Self → List ℕ };
 
-    /// The same set in four words.
+    /// Converts the set to four words.
     fn widened(self) -> Mask
         ensures { result ≡ wide self };
 
-    /// Whether it has no value.
+    /// Returns whether the set is empty.
     fn is_empty(self) -> bool
         ensures { result ≡ (length (values_in (wide self)) == 0) };
 
-    /// Its values that the other set has too.
-    fn meet(self, set: Mask) -> Self
+    /// Returns the intersection with `set`.
+    fn intersection(self, set: Mask) -> Self
         ensures { values_in (wide result) ≡ filter (has (values_in set)) (values_in (wide self)) };
 
-    /// Its least value, and the set without it; none where the set is empty.
+    /// Splits off the least value: returns it with the rest of the set, or `None` if the set is
+    /// empty.
     fn split_first(self) -> Option<(u8, Self)>
         ensures { MatchOption result (values_in (wide self) ≡ [])
             (λ r. values_in (wide self) ≡ r.0 ∷ values_in (wide r.1)) };
 }
 
-/// Values below 64.
-impl ValueSet for Part {
+/// A set of values below 64.
+impl ValueSet for Set64 {
     ghost wide = { wide_set };
 
     #[inline(always)]
@@ -46,21 +48,21 @@ impl ValueSet for Part {
 
     #[inline(always)]
     fn is_empty(self) -> bool {
-        part::is_empty(self)
+        set64::is_empty(self)
     }
 
     #[inline(always)]
-    fn meet(self, set: Mask) -> Part {
-        part::meet(self, first_part(set))
+    fn intersection(self, set: Mask) -> Set64 {
+        set64::intersection(self, low_set64(set))
     }
 
     #[inline(always)]
-    fn split_first(self) -> Option<(u8, Part)> {
-        part::split_first(self)
+    fn split_first(self) -> Option<(u8, Set64)> {
+        set64::split_first(self)
     }
 }
 
-/// Any values.
+/// A set of any values, all below 256.
 impl ValueSet for Mask {
     ghost wide = { λ set. set };
 
@@ -75,8 +77,8 @@ impl ValueSet for Mask {
     }
 
     #[inline(always)]
-    fn meet(self, set: Mask) -> Mask {
-        meet(self, set)
+    fn intersection(self, set: Mask) -> Mask {
+        intersection(self, set)
     }
 
     #[inline(always)]
@@ -85,25 +87,25 @@ impl ValueSet for Mask {
     }
 }
 
-/// The candidates at each place of an execution.
+/// The candidate sets at the places of one execution.
 pub(crate) trait Candidates: Copy {
     ghost use Rattle.std.specs.Prelude.{ℕ, List};
 
-    /// Those at one place.
+    /// The type of the candidate set at one place.
     type Set: ValueSet;
 
-    // the sets of the places, in four words each
+    // the sets of the places, each as four words
     ghost at_places: { Self → List (List ℕ) };
 
-    /// What is lost at a place, where those at hand were found there.
+    /// Returns the candidates at `place` that are not in `supported`.
     fn lost(&self, supported: &Self, place: u8) -> Self::Set
         requires { place < 4 }
         ensures { values_in (Self.Set.wide result)
             ≡ filter (λ v. not (has (values_in (get_or (at_places supported.now) place [])) v))
             (values_in (get_or (at_places self.now) place [])) };
 
-    /// Whether the first points of an execution have just these candidates. The answer may be no
-    /// if only the points past them have others.
+    /// Returns whether the first `places` points of `execution` have in `sets` exactly these
+    /// candidates. It may return `false` although they do, if a point past these differs.
     fn are_left(self, execution: PackedExecution, sets: &[Mask], places: u8) -> bool
         requires count { places ≤ 4 }
         requires long { length execution.points ≡ 4 }
@@ -113,15 +115,16 @@ pub(crate) trait Candidates: Copy {
         ensures others { OnFalse result (found_at execution sets.now ≢ at_places self) };
 }
 
-/// Candidates below 64. Past the last place stand those of the first one again, as its point does.
-impl Candidates for [Part; 4] {
-    type Set = Part;
+/// Candidates below 64. Past the last place of the execution the first one is repeated, as its
+/// point is.
+impl Candidates for [Set64; 4] {
+    type Set = Set64;
 
     ghost at_places = { widened };
 
     #[inline(always)]
-    fn lost(&self, supported: &[Part; 4], place: u8) -> Part {
-        part::difference(self[place as usize], supported[place as usize])
+    fn lost(&self, supported: &[Set64; 4], place: u8) -> Set64 {
+        set64::difference(self[place as usize], supported[place as usize])
     }
 
     fn are_left(self, execution: PackedExecution, sets: &[Mask], _places: u8) -> bool {
@@ -132,7 +135,7 @@ impl Candidates for [Part; 4] {
     }
 }
 
-/// Any candidates.
+/// Candidates of any size.
 impl Candidates for [Mask; 4] {
     type Set = Mask;
 

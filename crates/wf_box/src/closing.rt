@@ -1,4 +1,4 @@
-//! Closing.
+//! Closing a box: enforcing generalised arc consistency.
 
 ghost use Rattle.std.specs.Prelude.{◌≡◌, ◌<◌, ◌≤◌, ◌*◌, None, length, IfOk, IfSome, OnOk, OnErr, IfNone};
 ghost use Rattle.wf_model.specs.Box.{count, first_empty};
@@ -8,7 +8,7 @@ ghost use Rattle.wf_model.specs.Limits.{most_points};
 ghost use Rattle.wf_box.specs.Boxes.{Grows, IsClosedNow, IsFor};
 ghost use Rattle.wf_box.specs.Changes.{KeepsTrack, sets_in};
 ghost use Rattle.wf_box.specs.Quiet.{EmptiesNoneSince, IsUntouchedSince, MarksTell, StoodClosed};
-ghost use Rattle.wf_set.specs.Sets.{box_of};
+ghost use Rattle.wf_base.specs.Set.Sets.{box_of};
 ghost use Rattle.wf_network.specs.Problems.{IsNetwork, constraints_in, executions_in};
 ghost use Rattle.wf_box.specs.Steps.{ClosesTo, NamesAll, NamesLost, Reaches, SweepsTo, box_in};
 ghost use Rattle.wf_box.specs.Closes.{AddsClosing, AreFew, IsEmptied, Leaves, LosesNamed, Takes, emptied_by, sweeps_to_close};
@@ -20,31 +20,36 @@ use crate::taking::put;
 use crate::tracked::Tracked;
 use crate::workspace::Workspace;
 use std::alloc::{AllocError, Global};
+use wf_base::lines::{Line, Lines};
+use wf_base::set::{Mask, is_empty};
 use wf_lane::first_empty;
-use wf_lines::{Line, Lines};
 use wf_network::{Marks, Network, Problem};
-use wf_set::{Mask, is_empty};
 
-/// How closing ended.
+/// The outcome of closing a box.
 #[derive(Clone, Copy, Debug, PartialEq, Eq)]
 pub enum Closed {
-    /// This point has no candidate left.
+    /// This point lost its last candidate, or had none: the box has no solution.
     Empty(u32),
     /// Each candidate is supported in each execution at each place where its point stands.
     Open {
-        /// How many sweeps it took, with the last one, which changed nothing.
+        /// Number of sweeps, with the last one, which removed nothing.
         sweeps: u32,
     },
 }
 
-/// Takes out what is not supported, sweep by sweep, until a sweep changes
-/// nothing or a point is emptied, and adds a line for each value that is
-/// taken out, and one for the point that is emptied.
+/// Closes `boxed`, that is, enforces generalised arc consistency: sweeps over the executions of
+/// `problem` remove the candidates that are not supported, until a sweep removes nothing or a point
+/// has no candidate left.
 ///
-/// In a sweep the executions come in order, and each is judged by the candidates as they stand
-/// before it. Where a point has no candidate at the start, the line of the first such point is all.
-/// The box after is the one before without the values that the new lines name, also where a point
-/// is emptied. Refused for want of memory alone, and box and lines are then as before.
+/// For each candidate that it removes it appends a line to `lines`, and for a point without
+/// candidates a last one. A sweep visits the executions in ascending order, and judges each by the
+/// candidates as the execution before it left them. If some point has no candidate at the start,
+/// the line of the first such point is the only one. Also if a point becomes empty, the box loses
+/// exactly the values that the new lines name.
+///
+/// # Errors
+///
+/// Returns `AllocError` if memory runs out; `boxed` and `lines` are then unchanged.
 pub fn close(
     alloc: Global,
     problem: &Problem,
@@ -68,7 +73,7 @@ pub fn close(
     let network = problem.network();
     let executions = network.execution_count() as u32;
     boxed.workspace.marks.reserve(alloc, executions)?;
-    // no call after this one is refused
+    // nothing below can fail: the cache stays as it is if memory runs out
     boxed.workspace.memo.grow(alloc);
     let closed = close_tracked(problem, boxed.closed, &mut boxed.workspace, lines);
     boxed.closed = match closed {
@@ -78,8 +83,8 @@ pub fn close(
     Ok(closed)
 }
 
-/// Closes a box, where there is room for the lines. It was closed last after
-/// so many changes, or never was.
+/// Closes the box in `workspace`. `lines` has room for all lines to come, and `closed` is the
+/// number of changes after which the box was last closed, if that is known.
 fn close_tracked(
     problem: &Problem,
     closed: Option<u32>,
@@ -95,7 +100,7 @@ fn close_tracked(
     ensures sweeps { AreFew (count (box_in workspace.old)) (count (box_in workspace.new)) result }
     ensures sweep_count { Takes (sweeps_to_close problem.now (box_in workspace.old)) result }
 {
-    let prepared = prepare(problem, closed, &workspace.tracked, &mut workspace.marks);
+    let prepared = mark_and_find_empty(problem, closed, &workspace.tracked, &mut workspace.marks);
     if let Some(point) = prepared {
         put(lines, Line::Empty { point });
         return Closed::Empty(point);
@@ -103,9 +108,10 @@ fn close_tracked(
     sweeps(problem, workspace, lines)
 }
 
-/// Marks the executions in which something may be lost, and answers the first
-/// point without a candidate.
-fn prepare(
+/// Marks the executions in which a candidate may have lost its support, and returns the first point
+/// without a candidate. `closed` is the number of changes after which the box was last closed, if
+/// that is known.
+fn mark_and_find_empty(
     problem: &Problem,
     closed: Option<u32>,
     tracked: &Tracked,
@@ -125,8 +131,8 @@ fn prepare(
     empty_point(&tracked.words)
 }
 
-/// Marks the executions in which something may be lost, and says whether no
-/// point is empty for sure.
+/// Marks the executions in which a candidate may have lost its support. Returns `true` only if each
+/// point has a candidate; `false` means that this is not known.
 fn mark_problem(
     problem: &Problem,
     closed: Option<u32>,
@@ -150,8 +156,8 @@ fn mark_problem(
     }
 }
 
-/// Marks the executions of each point that changed past so many changes, and says whether each of
-/// these points has a candidate.
+/// Marks the executions of each point that is on the trail from the entry `changes` on. Returns
+/// whether each of these points has a candidate.
 fn mark_changed(network: &Network, changes: usize, tracked: &Tracked, marks: &mut Marks) -> bool
     requires network { IsNetwork network.now }
     requires kept { KeepsTrack tracked.now }
@@ -165,7 +171,7 @@ fn mark_changed(network: &Network, changes: usize, tracked: &Tracked, marks: &mu
     let mut full = true;
     for number in changes..tracked.trail.len() {
         let point = tracked.trail[number].point;
-        marks.mark_each(network.users_of(point));
+        marks.mark_each(network.executions_of(point));
         if is_empty(tracked.words[point as usize]) {
             full = false;
         }
@@ -173,7 +179,7 @@ fn mark_changed(network: &Network, changes: usize, tracked: &Tracked, marks: &mu
     full
 }
 
-/// The first point without a candidate.
+/// Returns the first point without a candidate.
 fn empty_point(sets: &[Mask]) -> Option<u32>
     requires { length sets.now ≤ most_points }
     ensures { result ≡ first_empty (box_of sets.now) }
@@ -184,7 +190,7 @@ fn empty_point(sets: &[Mask]) -> Option<u32>
     }
 }
 
-/// Sweeps until one changes nothing or a point is emptied.
+/// Sweeps over the executions until a sweep removes nothing or a point becomes empty.
 fn sweeps(problem: &Problem, workspace: &mut Workspace, lines: &mut Lines) -> Closed
     requires working { IsWorkingFor problem.now lines.old workspace.old }
     requires marked { AreMarked problem.now.constraints workspace.old }
@@ -208,8 +214,9 @@ fn sweeps(problem: &Problem, workspace: &mut Workspace, lines: &mut Lines) -> Cl
     }
 }
 
-/// Takes out of each execution in turn what is not supported there: of those that are marked, since
-/// the others have lost nothing. The point that this empties, if there is one.
+/// Makes one sweep: removes from each execution in turn the candidates that it doesn't support. It
+/// skips unmarked executions, in which nothing can be lost. Returns the point that becomes empty,
+/// which ends the sweep.
 fn sweep(problem: &Problem, workspace: &mut Workspace, lines: &mut Lines) -> Option<u32>
     requires working { IsWorkingFor problem.now lines.old workspace.old }
     requires marked { AreMarked problem.now.constraints workspace.old }
@@ -223,8 +230,8 @@ fn sweep(problem: &Problem, workspace: &mut Workspace, lines: &mut Lines) -> Opt
     sweep_marked(problem.network(), workspace, lines)
 }
 
-/// Takes out of each execution in turn that is marked what is not supported there. The point that
-/// this empties, if there is one.
+/// Removes from each marked execution in turn, in ascending order, the candidates that it doesn't
+/// support. Returns the point that becomes empty, which ends the sweep.
 fn sweep_marked(network: &Network, workspace: &mut Workspace, lines: &mut Lines) -> Option<u32>
     requires network { IsNetwork network.now }
     requires working { IsWorkingOn network.now lines.old workspace.old }

@@ -1,32 +1,32 @@
-//! The sets of a box that waits, in as little memory as they need.
+//! The candidate sets of a [`Snapshot`](crate::Snapshot), in as few bytes as they need.
 
 ghost use Rattle.std.specs.Prelude.{◌≡◌, map, not, true, IfOk};
 ghost use Rattle.wf_model.specs.Box.{first_open};
-ghost use Rattle.wf_set.specs.Parts.{part_values};
-ghost use Rattle.wf_set.specs.Sets.{box_of, values_in};
+ghost use Rattle.wf_base.specs.Set.Parts.{part_values};
+ghost use Rattle.wf_base.specs.Set.Sets.{box_of, values_in};
 ghost use Rattle.wf_box.specs.Kept.{IsTight, are_bytes, are_narrow, box_kept, is_narrow, is_wide, low_values};
 
 use std::alloc::{AllocError, Global};
+use wf_base::set::set64::{self, Set64};
+use wf_base::set::{Mask, from_set64, low_set64};
 use wf_lane::first_open;
-use wf_set::part::{self, Part};
-use wf_set::{Mask, first_part, of_part};
 
-/// The largest part whose values are all below 8.
-const MOST_OF_A_BYTE: Part = 255;
+/// Largest bit mask of a set whose values are all below 8.
+const MAX_OF_A_BYTE: Set64 = 255;
 
-/// A set for each point.
+/// A candidate set for each point, all of the same size in memory.
 #[derive(Drop)]
 pub(crate) enum KeptSets {
-    /// Each value is below 8: one byte a set.
+    /// Sets of values below 8, one byte each.
     Bytes(Vec<u8>),
-    /// Each value is below 64: one machine word a set.
-    Narrow(Vec<Part>),
-    /// Some value is not: four machine words a set.
+    /// Sets of values below 64, one machine word each.
+    Narrow(Vec<Set64>),
+    /// Sets of which one has a value of 64 or more, four machine words each.
     Wide(Vec<Mask>),
 }
 
 impl KeptSets {
-    /// These sets, in one byte each, or in one machine word, where no set needs more.
+    /// Copies `sets` in the smallest of the three forms that holds them all.
     pub(crate) fn of(alloc: Global, sets: &[Mask]) -> Result<KeptSets, AllocError>
         ensures sets { IfOk result (λ kept. box_kept kept ≡ box_of sets.now) }
         ensures wide { IfOk result (λ kept. is_wide kept ≡ not (are_narrow (box_of sets.now))) }
@@ -43,7 +43,7 @@ impl KeptSets {
         }
     }
 
-    /// The sets again, in four machine words each.
+    /// Copies the sets to the form of a box, with four machine words each.
     pub(crate) fn to_sets(&self, alloc: Global) -> Result<Vec<Mask>, AllocError>
         ensures { IfOk result (λ sets. box_of sets.items ≡ box_kept self.now) }
     {
@@ -54,7 +54,7 @@ impl KeptSets {
         }
     }
 
-    /// The position of the first set of two values or more.
+    /// Returns the index of the first set with two values or more.
     pub(crate) fn first_open(&self) -> Option<usize>
         ensures { result ≡ first_open (box_kept self.now) }
     {
@@ -66,7 +66,7 @@ impl KeptSets {
     }
 }
 
-/// Whether each value of each set is below 64.
+/// Returns whether each value of each set is below 64.
 fn are_narrow(sets: &[Mask]) -> bool
     ensures { result ≡ are_narrow (box_of sets.now) }
 {
@@ -78,50 +78,50 @@ fn are_narrow(sets: &[Mask]) -> bool
     true
 }
 
-/// Whether each value of the set is below 64.
+/// Returns whether each value of the set is below 64.
 fn is_narrow(set: Mask) -> bool
     ensures { result ≡ is_narrow (values_in set) }
 {
     let [_, b, c, d] = set;
-    part::is_empty(b) & part::is_empty(c) & part::is_empty(d)
+    set64::is_empty(b) & set64::is_empty(c) & set64::is_empty(d)
 }
 
-/// The values below 64 of each set.
-fn narrow(alloc: Global, sets: &[Mask]) -> Result<Vec<Part>, AllocError>
+/// Returns the values below 64 of each set.
+fn narrow(alloc: Global, sets: &[Mask]) -> Result<Vec<Set64>, AllocError>
     ensures { IfOk result (λ parts. map part_values parts.items ≡ low_values (box_of sets.now)) }
 {
     let mut parts = Vec::with_capacity(alloc, sets.len())?;
     for set in sets {
-        parts.push_reserved(first_part(*set));
+        parts.push_reserved(low_set64(*set));
     }
     Ok(parts)
 }
 
-/// The sets of these parts.
-fn widen(alloc: Global, parts: &[Part]) -> Result<Vec<Mask>, AllocError>
+/// Converts sets of one machine word to sets of four.
+fn widen(alloc: Global, parts: &[Set64]) -> Result<Vec<Mask>, AllocError>
     ensures { IfOk result (λ sets. box_of sets.items ≡ map part_values parts.now) }
 {
     let mut sets = Vec::with_capacity(alloc, parts.len())?;
     for part in parts {
-        sets.push_reserved(of_part(*part));
+        sets.push_reserved(from_set64(*part));
     }
     Ok(sets)
 }
 
-/// Whether each part has a byte's values alone, those below 8.
-fn are_bytes(parts: &[Part]) -> bool
+/// Returns whether all values of all `parts` are below 8, so that each part fits a byte.
+fn are_bytes(parts: &[Set64]) -> bool
     ensures { result ≡ are_bytes parts.now }
 {
     for part in parts {
-        if *part > MOST_OF_A_BYTE {
+        if *part > MAX_OF_A_BYTE {
             return false;
         }
     }
     true
 }
 
-/// These parts in a byte each.
-fn to_bytes(alloc: Global, parts: &[Part]) -> Result<Vec<u8>, AllocError>
+/// Converts `parts` to one byte each. All their values must be below 8.
+fn to_bytes(alloc: Global, parts: &[Set64]) -> Result<Vec<u8>, AllocError>
     requires { are_bytes parts.now ≡ true }
     ensures { IfOk result (λ bytes. bytes.items ≡ parts.now) }
 {
@@ -132,35 +132,35 @@ fn to_bytes(alloc: Global, parts: &[Part]) -> Result<Vec<u8>, AllocError>
     Ok(bytes)
 }
 
-/// The sets of these bytes.
+/// Converts sets of one byte to sets of four machine words.
 fn widen_bytes(alloc: Global, bytes: &[u8]) -> Result<Vec<Mask>, AllocError>
     ensures { IfOk result (λ sets. box_of sets.items ≡ map part_values bytes.now) }
 {
     let mut sets = Vec::with_capacity(alloc, bytes.len())?;
     for byte in bytes {
-        sets.push_reserved(of_part(u64::from(*byte)));
+        sets.push_reserved(from_set64(u64::from(*byte)));
     }
     Ok(sets)
 }
 
-/// The position of the first part of two values or more; none where each has one at most.
-fn first_open_part(parts: &[Part]) -> Option<usize>
+/// Returns the index of the first part with two values or more, or `None` if each has at most one.
+fn first_open_part(parts: &[Set64]) -> Option<usize>
     ensures { result ≡ first_open (map part_values parts.now) }
 {
     for i in 0..parts.len() {
-        if part::count(parts[i]) > 1 {
+        if set64::count(parts[i]) > 1 {
             return Some(i);
         }
     }
     None
 }
 
-/// The position of the first byte of two values or more; none where each has one at most.
+/// Returns the index of the first byte with two values or more, or `None` if each has at most one.
 fn first_open_byte(bytes: &[u8]) -> Option<usize>
     ensures { result ≡ first_open (map part_values bytes.now) }
 {
     for i in 0..bytes.len() {
-        if part::count(u64::from(bytes[i])) > 1 {
+        if set64::count(u64::from(bytes[i])) > 1 {
             return Some(i);
         }
     }

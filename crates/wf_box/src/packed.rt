@@ -1,4 +1,4 @@
-//! Candidates of an execution's points, packed in one number.
+//! Candidates of an execution's points, packed in one integer.
 
 ghost use Rattle.std.specs.Prelude.{◌≡◌, ◌<◌, length};
 ghost use Rattle.std.proofs.Common.{ap, eqb-true};
@@ -6,19 +6,21 @@ ghost use Rattle.wf_lane.specs.Table.{HasSupported};
 ghost use Rattle.wf_network.specs.Problems.{IsNetwork, constraints_in, rule_at};
 ghost use Rattle.wf_network.specs.Revising.{AreKnown, answers_in, nibbles_in, parts_in, widened};
 
-use wf_network::{Memo, Network, supported_nibbles, supported_word, unpacked, unpacked_nibbles};
-use wf_set::part::Part;
+use wf_base::set::set64::Set64;
+use wf_network::{
+    Network, SupportCache, supported_nibbles, supported_word, unpacked, unpacked_nibbles,
+};
 
-/// The candidates of an execution's points in one number: how large they may be depends on how many
-/// bits it has for each.
+/// The candidates of an execution's four points in one integer: 4 bits for each point in a `u16`,
+/// 16 in a `u64`.
 pub(crate) trait Packed: Copy + PartialEq {
     ghost use Rattle.std.specs.Prelude.{ℕ, List, true};
 
-    // the parts that are packed, one for each point
+    // the bit masks that are packed, one for each point
     ghost parts: { Self → List ℕ };
 
-    /// The candidates that the rule of this number supports.
-    fn supported(self, rule: u32, network: &Network, memo: &mut Memo) -> Self
+    /// Returns those of the candidates that the rule with index `rule` supports.
+    fn supported(self, rule: u32, network: &Network, memo: &mut SupportCache) -> Self
         requires network { IsNetwork network.now }
         requires rule { rule < length network.now.rules.items }
         requires known { AreKnown (constraints_in network.now) (answers_in memo.old) }
@@ -26,12 +28,12 @@ pub(crate) trait Packed: Copy + PartialEq {
             (rule_at network.now rule).table (widened (parts self)) }
         ensures known { AreKnown (constraints_in network.now) (answers_in memo.new) };
 
-    /// The parts, each by itself.
-    fn unpacked(self) -> [Part; 4]
+    /// Unpacks the bit mask of each point.
+    fn unpacked(self) -> [Set64; 4]
         ensures parts { result ≡ parts self }
         ensures long { length result ≡ 4 };
 
-    // equal numbers have the same parts
+    // equal integers have the same bit masks
     ghost same_parts: { (a b : Self) → Self.eq a b ≡ true → parts a ≡ parts b };
 }
 
@@ -40,12 +42,12 @@ impl Packed for u16 {
     ghost parts = { nibbles_in };
 
     #[inline(always)]
-    fn supported(self, rule: u32, network: &Network, memo: &mut Memo) -> u16 {
+    fn supported(self, rule: u32, network: &Network, memo: &mut SupportCache) -> u16 {
         supported_nibbles(rule, self, network, memo)
     }
 
     #[inline(always)]
-    fn unpacked(self) -> [Part; 4] {
+    fn unpacked(self) -> [Set64; 4] {
         unpacked_nibbles(self)
     }
 
@@ -57,12 +59,12 @@ impl Packed for u64 {
     ghost parts = { parts_in };
 
     #[inline(always)]
-    fn supported(self, rule: u32, network: &Network, memo: &mut Memo) -> u64 {
+    fn supported(self, rule: u32, network: &Network, memo: &mut SupportCache) -> u64 {
         supported_word(rule, self, network, memo)
     }
 
     #[inline(always)]
-    fn unpacked(self) -> [Part; 4] {
+    fn unpacked(self) -> [Set64; 4] {
         unpacked(self)
     }
 

@@ -1,5 +1,6 @@
-//! Taking out of one execution what its rule does not support: four ways, by how large the
-//! candidates are, since smaller ones are packed and their answers lie nearer each other.
+//! Revision of one execution: removing the candidates that its rule doesn't support. There are four
+//! versions, by how large the candidates are, since small ones can be packed, and their cached
+//! results are smaller.
 
 ghost use Rattle.std.specs.Prelude.{◌≡◌, ◌<◌, ◌*◌, ◌⊎◌, true, length};
 ghost use Rattle.std.specs.Bool.{OnTrue};
@@ -11,14 +12,15 @@ ghost use Rattle.wf_box.specs.Working.{IsRevising, IsTakingAt, Revises, TakesAt}
 
 use crate::candidates::{Candidates, ValueSet};
 use crate::packed::Packed;
-use crate::taking::{Occurrence, take_each};
+use crate::taking::{Occurrence, remove_each};
 use crate::workspace::Workspace;
-use wf_lines::Lines;
+use wf_base::lines::Lines;
+use wf_base::set::Mask;
+use wf_base::set::set64::Set64;
 use wf_network::{
-    Marks, Network, candidates_at, in_nibbles, in_word, narrowed, supported_narrow, supported_sets,
+    Marks, Network, candidates_at, narrowed, pack_nibbles, pack_word, supported_narrow,
+    supported_sets,
 };
-use wf_set::Mask;
-use wf_set::part::Part;
 
 /// An execution and its rule, each by its number.
 #[derive(Clone, Copy, Debug)]
@@ -27,16 +29,16 @@ struct ExecutionRule {
     rule: u32,
 }
 
-/// The candidates that were found in an execution, and those of them that its rule supports.
+/// The candidates that an execution's points had, and those of them that its rule supports.
 #[derive(Clone, Copy, Debug)]
 struct Judgement<T> {
     found: T,
     supported: T,
 }
 
-/// Takes out what is not supported in an execution, judged by its points'
-/// candidates as they stood before, and marks the executions of the points
-/// that lose something. The point that this empties, if there is one.
+/// Revises execution `number`: removes the candidates of its points that it doesn't support, judged
+/// by the candidates at the call, and marks the executions of each point that loses a candidate.
+/// Returns the point that becomes empty, if there is one.
 pub(crate) fn revise(
     number: u32,
     network: &Network,
@@ -54,17 +56,17 @@ pub(crate) fn revise(
     let Some(parts) = narrowed(found) else {
         return revise_large(number, network, workspace, lines);
     };
-    match in_nibbles(parts) {
+    match pack_nibbles(parts) {
         Some(nibbles) => revise_packed(at, nibbles, network, workspace, lines),
-        None => match in_word(parts) {
+        None => match pack_word(parts) {
             Some(word) => revise_packed(at, word, network, workspace, lines),
             None => revise_large(number, network, workspace, lines),
         },
     }
 }
 
-/// Takes out of an execution what its rule does not support, if all candidates are below 4 or below
-/// 16, and packed. The rule is the one of this number.
+/// Revises an execution whose candidates are all below 4 or all below 16, and are packed in
+/// `found`.
 fn revise_packed<P: Packed>(
     at: ExecutionRule,
     found: P,
@@ -81,17 +83,17 @@ fn revise_packed<P: Packed>(
 {
     let supported = found.supported(at.rule, network, &mut workspace.memo);
     if supported == found {
-        // most executions lose nothing
+        // most executions lose nothing, so this case comes first
         return None;
     }
     let judged = Judgement { found, supported };
-    take_packed(at.number, judged, network, workspace, lines)
+    remove_packed(at.number, judged, network, workspace, lines)
 }
 
-/// Takes out of an execution the packed candidates that are not supported. This is no part of the
-/// loop over executions, which needs the processor's registers.
+/// Removes from the points of execution `number` the packed candidates that are not supported. Not
+/// inlined into the loop over executions, so that the loop keeps the processor's registers.
 #[inline(never)]
-fn take_packed<P: Packed>(
+fn remove_packed<P: Packed>(
     number: u32,
     judged: Judgement<P>,
     network: &Network,
@@ -110,11 +112,11 @@ fn take_packed<P: Packed>(
         found: judged.found.unpacked(),
         supported: judged.supported.unpacked(),
     };
-    take_lost(number, judged, network, workspace, lines)
+    remove_unsupported(number, judged, network, workspace, lines)
 }
 
-/// Takes out of an execution what its rule does not support, if some candidate is 16 or more. It
-/// looks the candidates up again, so that the loop over executions keeps none of them in memory.
+/// Revises an execution with some candidate of 16 or more. It reads the candidates again, so that
+/// the loop over executions doesn't have to keep them in memory.
 #[inline(never)]
 fn revise_large(
     number: u32,
@@ -136,10 +138,10 @@ fn revise_large(
     }
 }
 
-/// Takes out of an execution what its rule does not support, if all candidates are below 64.
+/// Revises an execution whose candidates `found` are all below 64.
 fn revise_parts(
     at: ExecutionRule,
-    found: [Part; 4],
+    found: [Set64; 4],
     network: &Network,
     workspace: &mut Workspace,
     lines: &mut Lines,
@@ -156,10 +158,10 @@ fn revise_parts(
         return None;
     };
     let judged = Judgement { found, supported };
-    take_lost(at.number, judged, network, workspace, lines)
+    remove_unsupported(at.number, judged, network, workspace, lines)
 }
 
-/// Takes out of an execution what its rule does not support, if some candidate is 64 or more.
+/// Revises an execution with some candidate of 64 or more. `found` are its candidates.
 fn revise_sets(
     at: ExecutionRule,
     found: [Mask; 4],
@@ -176,14 +178,18 @@ fn revise_sets(
 {
     let supported = supported_sets(at.rule, found, network, &mut workspace.memo);
     let judged = Judgement { found, supported };
-    take_lost(at.number, judged, network, workspace, lines)
+    remove_unsupported(at.number, judged, network, workspace, lines)
 }
 
-/// Takes out of an execution the candidates that are not supported, place by place, and takes its
-/// mark away if each place has just what was supported there: then nothing else can be lost, since
-/// what is left is supported by what is left. The point that this empties, if there is one.
+/// Removes the candidates in `judged.found` that are not in `judged.supported` from the points of
+/// execution `number`, place by place, and appends a line for each to `lines`. Returns the first
+/// point that has no candidate left, which ends the removal, or `None`.
+///
+/// If the points then have exactly the supported candidates, it also removes the mark of the
+/// execution: a tuple that supports one of them consists of supported candidates, so nothing else
+/// can be lost there.
 #[inline(always)] // a copy for each caller, which knows more of the candidates
-fn take_lost<C: Candidates>(
+fn remove_unsupported<C: Candidates>(
     number: u32,
     judged: Judgement<C>,
     network: &Network,
@@ -213,7 +219,7 @@ fn take_lost<C: Candidates>(
             process: rule.process_at(place),
             point: execution.points[place as usize],
         };
-        if take_place(lost, at, network, workspace, lines) {
+        if remove_from_point(lost, at, network, workspace, lines) {
             return Some(at.point);
         }
     }
@@ -222,7 +228,8 @@ fn take_lost<C: Candidates>(
     None
 }
 
-/// Takes the mark of an execution away, if all that was supported there is left and nothing else.
+/// Removes the mark of execution `number` if `all_left` is true, that is, if its points have
+/// exactly the supported candidates.
 fn unmark(number: u32, all_left: bool, marks: &mut Marks)
     requires { number < 64 * length marks.old.words.items }
     ensures others { KeepsBitsBut marks.old.words.items marks.new.words.items number }
@@ -236,11 +243,11 @@ fn unmark(number: u32, all_left: bool, marks: &mut Marks)
     }
 }
 
-/// Takes those of the values out that are still there, ascending, with their lines, and marks the
-/// executions of the point if there are any. If this empties the point, that ends it, and the
-/// answer is true.
+/// Removes from the point of `place` those of the values `lost` that it still has, in ascending
+/// order, with a line for each, and marks the executions of the point if it lost one. Returns
+/// whether the point has no candidate left, which ends the removal.
 #[inline(always)] // so that the place is not put together in memory
-fn take_place<V: ValueSet>(
+fn remove_from_point<V: ValueSet>(
     lost: V,
     place: Occurrence,
     network: &Network,
@@ -252,12 +259,12 @@ fn take_place<V: ValueSet>(
         lines.old workspace.old lines.new workspace.new result }
 {
     let before = workspace.tracked.words[place.point as usize];
-    let emptied = take_each(lost, place, &mut workspace.tracked.words, lines);
+    let emptied = remove_each(lost, place, &mut workspace.tracked.words, lines);
     if workspace.tracked.words[place.point as usize] == before {
         return emptied;
     }
     workspace.tracked.note(place.point, before);
-    let users = network.users_of(place.point);
+    let users = network.executions_of(place.point);
     workspace.marks.mark_each(users);
     emptied
 }

@@ -1,4 +1,4 @@
-//! Boxes that wait.
+//! Snapshots: compact copies of boxes that are searched later.
 
 ghost use Rattle.std.specs.Prelude.{◌≡◌, IfOk};
 ghost use Rattle.wf_model.specs.Box.{first_open};
@@ -9,17 +9,17 @@ use crate::tracked::Tracked;
 use crate::workspace::Workspace;
 use std::alloc::{AllocError, Global};
 use std::marker::Model;
-use wf_network::{Marks, Memo};
+use wf_network::{Marks, SupportCache};
 
-/// The candidates of a box at one moment, which change no more. It takes less memory than the box,
-/// and the box can be made of it again: [`Box0::keep`] and [`Snapshot::to_box`].
+/// The candidates that a box had when [`Box0::keep`] was called. They don't change, and need less
+/// memory than the box. [`Snapshot::to_box`] makes a box of them again.
 ///
-/// A clause sees it as a box without a change to take back.
+/// A clause sees it as a box with an empty trail.
 #[derive(Drop)]
 pub struct Snapshot {
-    // for each point its candidates
+    // the candidates of each point
     pub(crate) sets: KeptSets,
-    // whether nothing had changed since the box was closed
+    // whether nothing had changed since the box was last closed
     pub(crate) is_closed: bool,
 }
 
@@ -34,8 +34,11 @@ impl Model for Snapshot {
 }
 
 impl Snapshot {
-    /// The box with these candidates, with no change to take back. Refused
-    /// for want of memory alone.
+    /// Creates a box with the candidates of the snapshot, an empty trail and an empty kernel cache.
+    ///
+    /// # Errors
+    ///
+    /// Returns `AllocError` if memory runs out.
     pub fn to_box(&self, alloc: Global) -> Result<Box0, AllocError>
         ensures { IfOk result (λ boxed. boxed ≡ self.now) }
     {
@@ -44,14 +47,14 @@ impl Snapshot {
             workspace: Workspace {
                 tracked: Tracked::new(alloc, sets)?,
                 marks: Marks::new(alloc),
-                memo: Memo::new(alloc),
+                memo: SupportCache::new(alloc),
             },
             closed: if self.is_closed { Some(0) } else { None },
         })
     }
 
-    /// The first point with two candidates or more; none where each point has
-    /// one at most. It takes no memory.
+    /// Returns the first point that has two candidates or more, or `None` if each point has at most
+    /// one.
     pub fn first_open(&self) -> Option<u32>
         ensures { result ≡ first_open self.now.sets }
     {

@@ -1,19 +1,19 @@
-//! Values are taken out of a box, with a line for each.
+//! Removal of candidates from a box, with a line for each.
 
 ghost use Rattle.std.specs.Prelude.{◌≡◌, ◌<◌, ◌≤◌, ◌+◌, ◌++◌, ◌∷◌, [], true, length, get_or, vec_len, vec_capacity};
 ghost use Rattle.std.specs.Bool.{OnFalse, OnTrue};
 ghost use Rattle.wf_model.specs.Lists.{has};
 ghost use Rattle.std.specs.List.{slice_set};
 ghost use Rattle.wf_model.specs.Box.{candidates, count};
-ghost use Rattle.wf_set.specs.Sets.{box_of, values_in};
+ghost use Rattle.wf_base.specs.Set.Sets.{box_of, values_in};
 ghost use Rattle.wf_box.specs.Closes.{EndsAt};
 ghost use Rattle.wf_box.specs.Steps.{HasRoom, IsSpent, NamesAt, TakesEach, TakesOut, removals};
 
 use crate::candidates::ValueSet;
-use wf_lines::{Line, Lines};
-use wf_set::{Mask, difference, holds, is_empty, split_first, without};
+use wf_base::lines::{Line, Lines};
+use wf_base::set::{Mask, contains, difference, is_empty, split_first, without};
 
-/// A process of an execution, and its point.
+/// A participant of an execution, and the point at which it stands there.
 #[derive(Clone, Copy, Debug)]
 pub(crate) struct Occurrence {
     pub(crate) execution: u32,
@@ -21,10 +21,10 @@ pub(crate) struct Occurrence {
     pub(crate) point: u32,
 }
 
-/// Takes those of the values out that are still there, ascending, with their lines. Where this
-/// empties the point, that ends it, and the answer is true.
+/// Removes those of `values` that the point still has, in ascending order, and appends a line for
+/// each. Returns whether the point becomes empty, which ends the removal, with a line for that.
 #[inline(always)] // so that the place is not put together in memory
-pub(crate) fn take_each<V: ValueSet>(
+pub(crate) fn remove_each<V: ValueSet>(
     values: V,
     at: Occurrence,
     sets: &mut [Mask],
@@ -48,18 +48,19 @@ pub(crate) fn take_each<V: ValueSet>(
     if is_empty(left) {
         return take_in_turn(values.widened(), at, sets, lines);
     }
-    let gone = values.meet(set);
+    let gone = values.intersection(set);
     if gone.is_empty() {
         return false;
     }
-    // before the lines, so that the words which stay as they are need not be written
+    // before the lines are written, so that the words of the set that stay the same need not be
+    // stored
     sets[point] = left;
-    name_each(gone, at, lines);
+    push_lines(gone, at, lines);
     false
 }
 
-/// Adds a line for each of the values, ascending, for which there is room.
-fn name_each<V: ValueSet>(values: V, at: Occurrence, lines: &mut Lines)
+/// Appends a line for each of `values`, in ascending order. `lines` must have room for them.
+fn push_lines<V: ValueSet>(values: V, at: Occurrence, lines: &mut Lines)
     requires { vec_len lines.old + length (values_in (V.wide values)) ≤ vec_capacity lines.old }
     ensures lines { lines.new.items ≡ lines.old.items ++ removals at (values_in (V.wide values)) }
     ensures len { vec_len lines.new ≡ vec_len lines.old + length (values_in (V.wide values)) }
@@ -80,7 +81,8 @@ fn name_each<V: ValueSet>(values: V, at: Occurrence, lines: &mut Lines)
     }
 }
 
-/// Takes those of the values out that are still there, one after another.
+/// Removes those of `values` that the point still has, one after another, until the point is empty.
+/// It does what [`remove_each`] does, also if the point becomes empty.
 fn take_in_turn(values: Mask, at: Occurrence, sets: &mut [Mask], lines: &mut Lines) -> bool
     requires point { at.point < length sets.old }
     requires room { HasRoom lines.old sets.old }
@@ -98,15 +100,15 @@ fn take_in_turn(values: Mask, at: Occurrence, sets: &mut [Mask], lines: &mut Lin
     'values: while let Some(next) = split_first(left) {
         let (value, rest) = next;
         left = rest;
-        if holds(sets[at.point as usize], value) && take_out(value, at, sets, lines) {
+        if contains(sets[at.point as usize], value) && take_out(value, at, sets, lines) {
             return true;
         }
     }
     false
 }
 
-/// Takes a candidate out, and adds its line. Where this empties the point, the line for that
-/// follows, and the answer is true.
+/// Removes the candidate `value`, and appends its line. If the point becomes empty, appends the
+/// line for that and returns `true`.
 fn take_out(value: u8, at: Occurrence, sets: &mut [Mask], lines: &mut Lines) -> bool
     requires point { at.point < length sets.old }
     requires present { has (candidates (box_of sets.old) at.point) value ≡ true }
@@ -139,7 +141,7 @@ fn take_out(value: u8, at: Occurrence, sets: &mut [Mask], lines: &mut Lines) -> 
     false
 }
 
-/// Adds a line, for which there is room.
+/// Appends a line. `lines` must have room for it.
 pub(crate) fn put(lines: &mut Lines, line: Line)
     requires { vec_len lines.old < vec_capacity lines.old }
     ensures lines { lines.new.items ≡ lines.old.items ++ line ∷ [] }

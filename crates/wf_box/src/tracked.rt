@@ -1,37 +1,37 @@
-//! The candidates of each point, and what they were.
+//! The candidates of each point with their trail.
 
 ghost use Rattle.std.specs.Prelude.{◌≡◌, ◌-◌, ◌<◌, ◌≤◌, [], true, length, take, vec_capacity, IfOk, IfSome};
 ghost use Rattle.wf_model.specs.Lists.{has};
 ghost use Rattle.wf_model.specs.Box.{candidates, count, decided, first_open};
-ghost use Rattle.wf_set.specs.Sets.{box_of, values_in};
+ghost use Rattle.wf_base.specs.Set.Sets.{box_of, values_in};
 ghost use Rattle.wf_box.specs.Changes.{GrowsTo, HasFewer, KeepsTrack, KeepsTrackWith, Notes, UndoesLast, sets_in, words_at};
 ghost use Rattle.wf_model.specs.Limits.{most_points};
 ghost use Rattle.wf_box.specs.Limits.{most_candidates};
 
 use std::alloc::{AllocError, Global};
+use wf_base::set::{Mask, has_two, singleton};
 use wf_lane::{count, first_open};
-use wf_set::{Mask, has_two, only};
 
-/// A point's candidates as they were before a change.
+/// An entry of the trail: a point, and its candidates before a change.
 #[derive(Clone, Copy, Debug)]
 pub(crate) struct Change {
     pub(crate) point: u32,
     pub(crate) before: Mask,
 }
 
-/// The candidates of each point, and the changes that made them so.
+/// The candidates of each point, and the trail of the changes that led to them.
 #[derive(Drop)]
 pub(crate) struct Tracked {
-    // for each point its candidates
+    // the candidates of each point
     pub(crate) words: Vec<Mask>,
-    // there is room for as many changes as there were candidates at first
+    // its capacity is the number of candidates at first, since each change removes at least one
     pub(crate) trail: Vec<Change>,
     // no point before this one has two candidates
     pub(crate) open_from: u32,
 }
 
 impl Tracked {
-    /// These candidates, which have not changed yet.
+    /// Creates the state with the candidates `words` and an empty trail.
     pub(crate) fn new(alloc: Global, words: Vec<Mask>) -> Result<Tracked, AllocError>
         requires { length words.items ≤ most_points }
         ensures kept { IfOk result KeepsTrack }
@@ -48,7 +48,8 @@ impl Tracked {
         })
     }
 
-    /// Leaves a point one of its candidates.
+    /// Reduces the candidates of `point` to `value`, which must be one of them, and puts the change
+    /// on the trail.
     pub(crate) fn set(&mut self, point: u32, value: u8)
         requires kept { KeepsTrack self.old }
         requires there { has (candidates (sets_in self.old) point) value ≡ true }
@@ -58,12 +59,13 @@ impl Tracked {
     {
         let before = self.words[point as usize];
         if has_two(before) {
-            self.words[point as usize] = only(value);
+            self.words[point as usize] = singleton(value);
             self.note(point, before);
         }
     }
 
-    /// Keeps what a point's candidates were before they became fewer.
+    /// Puts on the trail that the candidates of `point` were `before`, after some of them were
+    /// removed.
     pub(crate) fn note(&mut self, point: u32, before: Mask)
         requires kept { KeepsTrackWith point before self.old }
         requires within { point < length self.old.words.items }
@@ -75,8 +77,8 @@ impl Tracked {
         self.trail.push_reserved(Change { point, before });
     }
 
-    /// For how many changes there is room, each of which takes a candidate out: so many candidates
-    /// are left at most.
+    /// Returns how many more changes the trail has room for. That is at least the number of
+    /// candidates left, so it is enough: each change removes a candidate.
     pub(crate) fn room(&self) -> usize
         requires { KeepsTrack self.now }
         ensures room { result ≡ vec_capacity self.now.trail - length self.now.trail.items }
@@ -86,7 +88,7 @@ impl Tracked {
         self.trail.capacity() - self.trail.len()
     }
 
-    /// Takes the changes past so many back, the last first.
+    /// Undoes changes, the last one first, until `len` of them are left.
     pub(crate) fn undo(&mut self, len: usize)
         requires kept { KeepsTrack self.old }
         requires within { len ≤ length self.old.trail.items }
@@ -99,7 +101,7 @@ impl Tracked {
         }
     }
 
-    /// Takes the last change back.
+    /// Undoes the last change.
     fn undo_last(&mut self)
         requires kept { KeepsTrack self.old }
         requires some { 0 < length self.old.trail.items }
@@ -113,7 +115,7 @@ impl Tracked {
         }
     }
 
-    /// The first point with two candidates or more.
+    /// Returns the first point that has two candidates or more.
     pub(crate) fn first_open(&self) -> Option<u32>
         requires { KeepsTrack self.now }
         ensures { result ≡ first_open (sets_in self.now) }
@@ -124,9 +126,9 @@ impl Tracked {
         }
     }
 
-    /// The first point with two candidates or more. The next time the search for such a point
-    /// starts there.
-    pub(crate) fn find_open(&mut self) -> Option<u32>
+    /// Returns the first point that has two candidates or more, and stores it, so that the next
+    /// search for such a point starts there.
+    pub(crate) fn advance_to_open(&mut self) -> Option<u32>
         requires { KeepsTrack self.old }
         ensures found { result ≡ first_open (sets_in self.old) }
         ensures kept { KeepsTrack self.new }
@@ -142,7 +144,8 @@ impl Tracked {
     }
 }
 
-/// Up to where no point has two candidates, once a change is taken back.
+/// Returns the new value of `Tracked::open_from` after the change `undone` is undone: no point
+/// before it has two candidates.
 fn open_from_with(open_from: u32, undone: Change) -> u32
     ensures low { result ≤ open_from }
     ensures open { undone.point < result → length (values_in undone.before) ≤ 1 }
@@ -154,7 +157,7 @@ fn open_from_with(open_from: u32, undone: Change) -> u32
     }
 }
 
-/// How many candidates the points have in all.
+/// Returns the number of candidates of all points together.
 fn count_candidates(sets: &[Mask]) -> u32
     requires { length sets.now ≤ most_points }
     ensures count { result ≡ count (box_of sets.now) }

@@ -5,7 +5,7 @@ use Rattle.std.proofs.lemmas.List.{length-replicate, get_or_past, get_or-replica
 use Rattle.wf_model.specs.View.{View, base, seen, views_of, process_of, round}
 use Rattle.wf_model.specs.Word.{Word}
 use Rattle.wf_complex.proofs.RoundLemmas.{get_or-round}
-use Rattle.wf_complex.specs.declared.rounds.Sight.{Sight}
+use Rattle.wf_complex.specs.declared.rounds.ImmediateSnapshot.{ImmediateSnapshot}
 use Rattle.wf_complex.specs.Rounds.{picked, only_if, places_seen, visible_ids, view_by, IsSight, AreKnown, Extends}
 
 -- ---- places as bits
@@ -66,7 +66,7 @@ is_view_by vs w i place long =
     get_or-round vs w w vs i place long ∙ (λ k. seen (process_of (get_or vs i (base 0 0))) (views_of (sym (picked_seen (get_or w i 0) w vs long) k)))
 
 -- whom the participant at a place of a sight sees
-module _ (s : Sight) (is : IsSight s) (few : length s.word ≤ 4) (i : ℕ) (place : i < length s.word) where
+module _ (s : ImmediateSnapshot) (is : IsSight s) (few : length s.word ≤ 4) (i : ℕ) (place : i < length s.word) where
   pub bits_there : get_or s.seen i 0 ≡ places_seen (get_or s.word i 0) s.word
   bits_there = places_there (λ block. places_seen block s.word) s.word s.seen i is place
 

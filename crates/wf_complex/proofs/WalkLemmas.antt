@@ -7,7 +7,7 @@ use Rattle.std.proofs.lemmas.Option.{slice_get_within, get_or_from_slice_get}
 use Rattle.wf_model.specs.View.{View, round}
 use Rattle.wf_model.specs.Word.{Word, words}
 use Rattle.wf_model.proofs.Lemmas.{words_long}
-use Rattle.wf_complex.specs.declared.rounds.Sight.{Sight}
+use Rattle.wf_complex.specs.declared.rounds.ImmediateSnapshot.{ImmediateSnapshot}
 use Rattle.wf_complex.specs.Rounds.{views_at, words_in, Extends, leaves, cost}
 use Rattle.wf_complex.proofs.RoundLemmas.{views_kept, length-views, length-round}
 
@@ -62,7 +62,7 @@ next_at ws us e n w v false at next last below = absurd (let none : ⊥ = omega 
 
 -- ---- sights
 
-pub word_there : (ss : List Sight) (i : ℕ) (s d : Sight) → i < length ss → s ≡ get_or ss i d → slice_get (words_in ss) i ≡ Some s.word
+pub word_there : (ss : List ImmediateSnapshot) (i : ℕ) (s d : ImmediateSnapshot) → i < length ss → s ≡ get_or ss i d → slice_get (words_in ss) i ≡ Some s.word
 word_there [] i s d h is = absurd (let none : ⊥ = omega (arith, h) in none)
 word_there (x ∷ ss) zero s d h is = λ k. Some ((sym is k).word)
 word_there (x ∷ ss) (suc i) s d h is = word_there ss i s d (omega (arith, h)) is

@@ -6,7 +6,7 @@ use Rattle.wf_model.specs.Word.{Word, words}
 use Rattle.wf_complex.specs.Views.{view_at}
 use Rattle.wf_complex.specs.declared.rounds.Ids.{Ids}
 use Rattle.wf_complex.specs.declared.rounds.Round.{Round}
-use Rattle.wf_complex.specs.declared.rounds.Sight.{Sight}
+use Rattle.wf_complex.specs.declared.rounds.ImmediateSnapshot.{ImmediateSnapshot}
 
 -- the views of these numbers
 abbrev pub views_at : List View → List ℕ → List View
@@ -36,18 +36,18 @@ places_seen block [] = 0
 places_seen block (l ∷ w) = (if nat_le l block then 1 else 0) + 2 * places_seen block w
 
 -- a word with whom each participant sees
-abbrev pub IsSight : Sight → Type 0
+abbrev pub IsSight : ImmediateSnapshot → Type 0
 IsSight s = take (length s.word) s.seen ≡ map (λ block. places_seen block s.word) s.word
 
 -- a sight of n participants
-abbrev pub IsSightOf : ℕ → Sight → Type 0
+abbrev pub IsSightOf : ℕ → ImmediateSnapshot → Type 0
 IsSightOf n s = (length s.word ≡ n) × IsSight s
 
-abbrev pub words_in : List Sight → List Word
+abbrev pub words_in : List ImmediateSnapshot → List Word
 words_in ss = map (λ s. s.word) ss
 
 -- the sights of n participants with a first block of m at least or of all
-abbrev pub AreSights : ℕ → ℕ → List Sight → Type 0
+abbrev pub AreSights : ℕ → ℕ → List ImmediateSnapshot → Type 0
 AreSights m n ss = (words_in ss ≡ words m n) × All (IsSightOf n) ss
 
 -- the sights of a round are all of their size, once some are made

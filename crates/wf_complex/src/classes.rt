@@ -1,4 +1,4 @@
-//! The points: the classes of the last views.
+//! The points of a protocol complex: the last views, or in a symmetric task their classes.
 
 ghost use Rattle.std.specs.Prelude.{◌≡◌, ◌<◌, ◌≤◌, ◌+◌, ◌*◌, length, map, All, IfOk, OnOk};
 ghost use Rattle.wf_model.specs.Lists.{distinct};
@@ -13,21 +13,22 @@ use crate::numbering::number_all;
 use crate::views::Views;
 use std::alloc::{AllocError, Global};
 
-/// The points of the last views, in the order of first appearance.
+/// The points of a list of last views, in the order of their first appearance.
 #[derive(Drop)]
 pub(crate) struct Points {
-    /// The class of each point, by its number among the views.
+    /// The id in [`Views`] of each point's view, or in a symmetric task of its class.
     pub classes: Vec<u32>,
-    /// The place of the last view at which each point appears first.
+    /// The position in the list of last views at which each point appears first.
     pub firsts: Vec<u32>,
     /// The point of each last view.
     pub numbers: Vec<u32>,
-    /// How many different last views there are.
+    /// The number of different last views.
     pub view_count: u32,
 }
 
-/// The points of the last views. The class of a view is in a symmetric task what it is with the
-/// names of its processes forgotten, and else the view itself.
+/// Returns the points of `lasts`, a list of view ids. If the task is `symmetric`, then a view's
+/// class is the view with the names of its processes forgotten; otherwise each view is its own
+/// class. Classes that are new are added to `views`.
 pub(crate) fn points_of(
     alloc: Global,
     views: &mut Views,
@@ -55,19 +56,20 @@ pub(crate) fn points_of(
             view_count,
         });
     }
-    let normals = normals_of(alloc, views, &numbered.different)?;
+    let normals = anonymous_views(alloc, views, &numbered.different)?;
     let merged = number_all(alloc, normals, views.len() as usize)?;
     let firsts = pick(alloc, &numbered.firsts, &merged.firsts)?;
     Ok(Points {
         classes: merged.different,
         firsts,
-        numbers: pick_over(&merged.places, numbered.places),
+        numbers: gather_in_place(&merged.places, numbered.places),
         view_count,
     })
 }
 
-/// The numbers of views with the names of their processes forgotten, in the order of the views.
-fn normals_of(alloc: Global, views: &mut Views, ids: &[u32]) -> Result<Vec<u32>, AllocError>
+/// Returns the ids of the views `ids` with the names of their processes forgotten, in the same
+/// order. Views that are new are added to `views`.
+fn anonymous_views(alloc: Global, views: &mut Views, ids: &[u32]) -> Result<Vec<u32>, AllocError>
     requires ids { All (λ k. k < length views.old) ids.now }
     requires shallow { All (λ k. count_within (view_at views.old k) ≤ most_within) ids.now }
     requires room { length views.old + most_within * length ids.now ≤ most_number }
@@ -84,7 +86,7 @@ fn normals_of(alloc: Global, views: &mut Views, ids: &[u32]) -> Result<Vec<u32>,
     Ok(normals)
 }
 
-/// The numbers at these places of a list.
+/// Returns the items of `ids` at the indices `places`.
 fn pick(alloc: Global, ids: &[u32], places: &[u32]) -> Result<Vec<u32>, AllocError>
     requires { All (λ p. p < length ids.now) places.now }
     ensures { IfOk result (λ v. v.items ≡ picked ids.now places.now) }
@@ -96,8 +98,8 @@ fn pick(alloc: Global, ids: &[u32], places: &[u32]) -> Result<Vec<u32>, AllocErr
     Ok(numbers)
 }
 
-/// The numbers at these places of a list, written over the places.
-fn pick_over(ids: &[u32], places: Vec<u32>) -> Vec<u32>
+/// Returns the items of `ids` at the indices `places`. They are written over `places`.
+fn gather_in_place(ids: &[u32], places: Vec<u32>) -> Vec<u32>
     requires { All (λ p. p < length ids.now) places.items }
     ensures { result.items ≡ picked ids.now places.items }
 {

@@ -1,4 +1,4 @@
-//! Why a protocol complex is refused.
+//! The reasons why a protocol complex can't be built.
 
 ghost use Rattle.std.specs.Prelude.{◌≡◌, Some};
 ghost use Rattle.wf_complex.specs.Faults.{fault_text};
@@ -8,14 +8,14 @@ use std::alloc::AllocError;
 use std::fmt;
 use wf_task::TaskFault;
 
-/// Why there is no protocol complex.
+/// The reason why a protocol complex can't be built, with the number with which it is printed.
 #[derive(Clone, Copy, Debug, PartialEq, Eq)]
 pub enum BuildFault {
     /// 16: there are more than 8 rounds.
     Rounds,
     /// 17: there are more than 500,000 executions.
     TooManyExecutions,
-    /// Out of memory: 15, as of a task's text.
+    /// 15: memory ran out. The number is that of the same fault of a task's text.
     OutOfMemory,
 }
 

@@ -1,4 +1,4 @@
-//! Where points appear first.
+//! The first appearances of points.
 
 ghost use Rattle.std.specs.Prelude.{ℕ, ◌≡◌, ◌<◌, ◌≤◌, length, take, All, AllPairs, IfOk};
 ghost use Rattle.wf_model.specs.Limits.{most_executions};
@@ -8,14 +8,16 @@ use crate::layout::ExecutionSlot;
 use std::alloc::{AllocError, Global};
 use wf_simplex::Simplex;
 
-/// An execution and one of its processes, at which a point appears first.
+/// The first appearance of a point: an execution, and the process in it whose last view is the
+/// point.
 #[derive(Clone, Copy, Debug)]
 pub(crate) struct First {
     pub execution: u32,
     pub process: u8,
 }
 
-/// The execution and the process of each of these places, which ascend.
+/// Returns the execution and the process at each of `places`. These are positions in the list of
+/// the last views of all `executions`, in ascending order.
 pub(crate) fn firsts_of(
     alloc: Global,
     inputs: &[Simplex],
@@ -43,8 +45,9 @@ pub(crate) fn firsts_of(
     Ok(firsts)
 }
 
-/// The number of the execution that a place belongs to, where they lie one after another and those
-/// before `first` end by that place.
+/// Returns the index of the execution to which the position `place` in the list of last views
+/// belongs. The search begins at the execution with index `first`; all earlier ones must lie before
+/// `place`.
 fn execution_from(executions: &[ExecutionSlot], first: u32, place: u32) -> u32
     requires lying { (end : ℕ) × (place < end) × LieFrom 0 end executions.now }
     requires few { length executions.now ≤ most_executions }

@@ -1,4 +1,4 @@
-//! Where the executions of a task lie in the list of their last views.
+//! The layout of a task's executions in the list of their last views.
 
 ghost use Rattle.std.specs.Prelude.{◌≡◌, ◌≤◌, ◌+◌, ◌*◌, ◌++◌, min, length, All, IfOk, OnOk};
 ghost use Rattle.wf_model.specs.Limits.{most_executions, most_inputs, most_number, most_processes};
@@ -7,11 +7,11 @@ ghost use Rattle.wf_complex.specs.Layout.{turns, execution_total, laid_on, laid_
 use std::alloc::{AllocError, Global};
 use wf_simplex::{Simplex, allowed_count};
 
-/// The most executions that a protocol complex may have.
-pub const MOST_EXECUTIONS: u32 = 500_000;
+/// The largest number of executions in a protocol complex.
+pub const MAX_EXECUTIONS: u32 = 500_000;
 
-/// An execution, in eight bytes: the place of its first process in the list of places, the number
-/// of its input simplex, and how many processes take part.
+/// An execution, in eight bytes: the position of its first process in the list of last views, the
+/// index of its input simplex, and the number of its processes.
 #[derive(Clone, Copy, Debug)]
 pub(crate) struct ExecutionSlot {
     pub place: u32,
@@ -19,8 +19,9 @@ pub(crate) struct ExecutionSlot {
     pub size: u8,
 }
 
-/// How many executions a simplex of this size has whose first blocks have at least `first_block`
-/// participants, or all where they are fewer: counted up to one more than the most.
+/// Returns the number of executions of `rounds` rounds on a simplex of `size` processes, but at
+/// most one more than [`MAX_EXECUTIONS`]. In each round, the first block has at least
+/// `first_block` participants, or all if there are fewer.
 pub(crate) fn executions_on(size: u8, first_block: u8, rounds: u32) -> u32
     requires some { 1 ≤ size }
     requires few { size ≤ most_processes }
@@ -31,14 +32,16 @@ pub(crate) fn executions_on(size: u8, first_block: u8, rounds: u32) -> u32
     let words = allowed_count(size, first_block);
     let mut count = 1;
     for _round in 0..rounds {
-        count = (count * words).min(MOST_EXECUTIONS + 1);
+        count = (count * words).min(MAX_EXECUTIONS + 1);
     }
     count
 }
 
-/// How many executions a simplex of this size has after some rounds: the lists of as many words,
-/// each of whose first blocks has at least `first_block` participants, or all if they are fewer.
-pub fn turn_count(size: u8, first_block: u8, rounds: u32) -> u32
+/// Returns the number of executions on a simplex of `size` processes: the lists of `rounds` words
+/// whose first blocks have at least `first_block` participants, or all if there are fewer.
+///
+/// The number must be at most 500,000.
+pub fn execution_count_of_size(size: u8, first_block: u8, rounds: u32) -> u32
     requires some { 1 ≤ size }
     requires few { size ≤ most_processes }
     requires one { 1 ≤ first_block }
@@ -49,8 +52,9 @@ pub fn turn_count(size: u8, first_block: u8, rounds: u32) -> u32
     executions_on(size, first_block, rounds)
 }
 
-/// How many executions there are on these simplices whose first blocks have at least `first_block`
-/// participants, or all where they are fewer: counted up to one more than the most.
+/// Returns the number of executions of `rounds` rounds on all simplices of `inputs`, but at most
+/// one more than [`MAX_EXECUTIONS`]. In each round, the first block has at least `first_block`
+/// participants, or all if there are fewer.
 pub(crate) fn execution_count(inputs: &[Simplex], first_block: u8, rounds: u32) -> u32
     requires one { 1 ≤ first_block }
     requires most { first_block ≤ most_processes }
@@ -60,14 +64,14 @@ pub(crate) fn execution_count(inputs: &[Simplex], first_block: u8, rounds: u32) 
     let mut total = 0;
     for simplex in inputs {
         total = (total + executions_on(simplex.colours(), first_block, rounds)).min(
-            MOST_EXECUTIONS + 1,
+            MAX_EXECUTIONS + 1,
         );
     }
     total
 }
 
-/// How many processes take part in the executions on these simplices, each counted for each of its
-/// executions.
+/// Returns the length of the list of last views of all executions on `inputs`: each execution
+/// counts as often as it has processes.
 pub(crate) fn place_count(inputs: &[Simplex], first_block: u8, rounds: u32) -> usize
     requires one { 1 ≤ first_block }
     requires most { first_block ≤ most_processes }
@@ -83,7 +87,9 @@ pub(crate) fn place_count(inputs: &[Simplex], first_block: u8, rounds: u32) -> u
     places
 }
 
-/// The executions in order: simplex by simplex, and those on one simplex one after another.
+/// Returns the executions on `inputs`: simplex by simplex, and on each simplex one after another in
+/// the list of last views. In each round, the first block has at least `first_block` participants,
+/// or all if there are fewer.
 pub(crate) fn lay_out(
     alloc: Global,
     inputs: &[Simplex],
@@ -109,7 +115,8 @@ pub(crate) fn lay_out(
     Ok(executions)
 }
 
-/// Adds the executions on one simplex, whose places begin here.
+/// Appends to `executions` the `count` executions on one simplex. `simplex` is its index, `size`
+/// its number of processes, and `first` the position at which the executions' last views begin.
 fn lay_on(
     executions: &mut Vec<ExecutionSlot>,
     simplex: u16,

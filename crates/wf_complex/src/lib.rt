@@ -1,14 +1,14 @@
-//! The r-round protocol complex of a task.
+//! The protocol complex of a task after r rounds of iterated immediate snapshot.
 //!
-//! - [`Protocol`]: the executions of a task and its points, by their numbers.
-//! - [`PackedExecution`]: an execution with its points, as it is kept and shared.
-//! - [`Views`]: views under numbers, one number for one view. A view is what a process knows after
-//!   some rounds of immediate snapshots: at the start its input, and later the views that it saw.
-//!   A view comes back in a great many executions, so a table keeps each view once, and views name
-//!   the views inside them by their numbers: a look-up costs one hash of a few numbers, however
-//!   deep the view is.
-//! - [`put_view`]: a view in words.
-//! - [`turn_count`]: how many executions a simplex of some size has.
+//! - [`Protocol`]: the executions of a task and its points, by their indices. Begin with
+//!   [`Protocol::build`].
+//! - [`PackedExecution`]: an execution with its points, in the form in which it is kept and shared.
+//! - [`Views`]: a table with one id for each view. A view is what a process knows after some rounds
+//!   of immediate snapshots: at the start its input, and later the views that it saw. The same view
+//!   occurs in a great many executions, so the table keeps each view once, and refers to the views
+//!   inside it by their ids. A look-up hashes a few numbers, however deep the view is.
+//! - [`put_view`]: writes a view in words.
+//! - [`execution_count_of_size`]: the number of executions on a simplex of a given size.
 #![tactic(auto)]
 
 mod classes;
@@ -24,7 +24,7 @@ mod views;
 mod words;
 
 pub use fault::BuildFault;
-pub use layout::turn_count;
+pub use layout::execution_count_of_size;
 pub use packed::PackedExecution;
 pub use protocol::Protocol;
 pub use views::Views;

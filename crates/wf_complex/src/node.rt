@@ -1,4 +1,4 @@
-//! An entry of the table.
+//! Entries of the table of views.
 
 ghost use Rattle.std.specs.Prelude.{◌≡◌, ◌≤◌, ◌+◌, ◌*◌, true, length, take};
 ghost use Rattle.wf_model.specs.Lists.{has};
@@ -9,8 +9,10 @@ ghost use Rattle.wf_complex.specs.Renaming.{HaveNewNumbers, number_beside, renum
 
 use std::hash::{Hash, Hasher};
 
-/// A view, with the views inside it by their numbers. An input has the count 0, and its value in
-/// the first place. Places past the last are 0, so that equal views are equal entries.
+/// An entry of the table of views: a view, which refers to the views inside it by their ids.
+///
+/// An input has the count 0, and its value in `ids[0]`. Unused items of `ids` are 0, so that equal
+/// views are equal entries.
 #[derive(Clone, Copy, PartialEq, Eq)]
 pub struct Node {
     pub process: u8,
@@ -19,7 +21,7 @@ pub struct Node {
 }
 
 impl Node {
-    /// The numbers of the views inside it.
+    /// Returns the ids of the views inside this one. An input has none.
     pub fn parts(&self) -> &[u32]
         requires { self.now.count ≤ 4 }
         ensures { result.now ≡ take self.now.count self.now.ids }
@@ -28,11 +30,11 @@ impl Node {
     }
 }
 
-/// How many numbers there are.
+/// The number of different ids: 2^32.
 const NUMBERS: u64 = 1 << 32;
 
-/// Two numbers are hashed as one, which is less work. The count is left out: entries with the same
-/// numbers seldom differ in it alone.
+/// Hashes two ids as one number, which is less work. The count is left out: entries with the same
+/// ids and process seldom differ in it.
 impl Hash for Node {
     ghost hash_input = { hash_writes };
 
@@ -46,7 +48,7 @@ impl Hash for Node {
     }
 }
 
-/// The entry of an input.
+/// Returns the entry of `process` with the input `value`.
 pub fn input(process: u8, value: u8) -> Node
     ensures { result ≡ base_node process value }
 {
@@ -57,7 +59,7 @@ pub fn input(process: u8, value: u8) -> Node
     }
 }
 
-/// The entry of a process that saw these.
+/// Returns the entry of `process` after it saw the views `ids`, of which there are at most four.
 pub fn snapshot(process: u8, ids: &[u32]) -> Node
     requires { length ids.now ≤ 4 }
     ensures { result ≡ seen_node process ids.now }
@@ -77,8 +79,8 @@ pub fn snapshot(process: u8, ids: &[u32]) -> Node
     }
 }
 
-/// The entry with this process, and with the new number of each view in it. The new numbers stand
-/// beside the old ones, which ascend.
+/// Returns `node` with `process` as its process, and each id in it replaced: the id `old[i]` by
+/// `new[i]`. `old` must ascend, and have each id of `node` at an index below the length of `new`.
 pub fn renumber(node: Node, process: u8, old: &[u32], new: &[u32]) -> Node
     requires count { node.count ≤ 4 }
     requires ascending { is_ascending old.now ≡ true }
@@ -88,7 +90,7 @@ pub fn renumber(node: Node, process: u8, old: &[u32], new: &[u32]) -> Node
 {
     let mut ids = node.ids;
     for place in 0..usize::from(node.count) {
-        ids[place] = number_beside(old, new, ids[place]);
+        ids[place] = new_id(old, new, ids[place]);
     }
     Node {
         process,
@@ -97,8 +99,9 @@ pub fn renumber(node: Node, process: u8, old: &[u32], new: &[u32]) -> Node
     }
 }
 
-/// The new number that stands beside this old one.
-pub fn number_beside(old: &[u32], new: &[u32], id: u32) -> u32
+/// Returns `new[i]`, where `old[i]` is `id`. `old` must ascend, and have `id` at an index below the
+/// length of `new`.
+pub fn new_id(old: &[u32], new: &[u32], id: u32) -> u32
     requires ascending { is_ascending old.now ≡ true }
     requires fewer { length new.now ≤ length old.now }
     requires known { has (take (length new.now) old.now) id ≡ true }

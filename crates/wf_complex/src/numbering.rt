@@ -1,4 +1,4 @@
-//! Numbers in the order of first appearance.
+//! Numbering of a list's different items in the order of their first appearance.
 
 ghost use Rattle.std.specs.Prelude.{◌≡◌, ◌<◌, ◌≤◌, ◌∷◌, [], ◌++◌, ℕ, length, vec_len, All, IfOk, OnOk, Ok, Some, None, get_or, slice_set};
 ghost use Rattle.wf_model.specs.Limits.{most_number};
@@ -6,19 +6,22 @@ ghost use Rattle.wf_complex.specs.Numbering.{AreNumbered};
 
 use std::alloc::{AllocError, Global};
 
-/// The different numbers of a list, and each number by its place among them.
+/// The different items of a list of ids, and each item of the list as an index among them.
 #[derive(Drop)]
 pub(crate) struct Numbered {
-    /// The different numbers, in the order of first appearance.
+    /// The different items, in the order of their first appearance.
     pub different: Vec<u32>,
-    /// Where in the list each of them stands first.
+    /// The index in the list at which each of them appears first.
     pub firsts: Vec<u32>,
-    /// The place of each number of the list among the different ones.
+    /// For each item of the list, its index among the different items.
     pub places: Vec<u32>,
 }
 
-/// Numbers the different numbers of a list, all below a bound, in the order of first appearance.
-/// The places are written over the list.
+/// Numbers the different items of `ids` in the order of their first appearance. All items must be
+/// below `bound`.
+///
+/// It takes time and memory in proportion to the length of `ids` and to `bound`. The result's
+/// `places` are written over `ids`.
 pub(crate) fn number_all(alloc: Global, ids: Vec<u32>, bound: usize) -> Result<Numbered, AllocError>
     requires bound { All (λ id. id < bound) ids.items }
     requires few { length ids.items ≤ most_number }
@@ -31,7 +34,7 @@ pub(crate) fn number_all(alloc: Global, ids: Vec<u32>, bound: usize) -> Result<N
     let mut places = ids;
     for i in 0..places.len() {
         let id = places[i];
-        places[i] = number_one(&mut numbers, &mut different, &mut firsts, id, i as u32)?;
+        places[i] = intern(&mut numbers, &mut different, &mut firsts, id, i as u32)?;
     }
     Ok(Numbered {
         different,
@@ -40,9 +43,9 @@ pub(crate) fn number_all(alloc: Global, ids: Vec<u32>, bound: usize) -> Result<N
     })
 }
 
-/// The place of one number. Where it is met for the first time it gets the
-/// next place, and stands at i.
-fn number_one(
+/// Returns the index of `id` among the distinct ids. If `id` is new, appends it to `different`,
+/// appends its index `i` in the list to `firsts`, and enters its number in `numbers`.
+fn intern(
     numbers: &mut Vec<Option<u32>>,
     different: &mut Vec<u32>,
     firsts: &mut Vec<u32>,

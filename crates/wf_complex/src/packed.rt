@@ -9,18 +9,21 @@ use crate::layout::{execution_count, executions_on};
 use std::alloc::{AllocError, Global};
 use wf_simplex::Simplex;
 
-/// An execution: the number of its input simplex, and the points of its processes. The points past
-/// their number are that of the first process, and are not used.
+/// An execution, as the index of its input simplex and the points of its processes.
+///
+/// `points` has the points by ascending process. If there are fewer than four processes, the rest
+/// of it repeats the first point and has no meaning.
 #[derive(Clone, Copy, Debug)]
 pub struct PackedExecution {
-    /// The number of its input simplex.
+    /// The index of its input simplex.
     pub simplex: u32,
-    /// The points of its processes.
+    /// The points of its processes, by ascending process, padded with the first.
     pub points: [u32; 4],
 }
 
-/// The executions on these simplices whose first blocks have at least `first_block` participants,
-/// or all where they are fewer. Their processes have these points, one execution after another.
+/// Returns the executions on `inputs`, simplex by simplex. In each round, the first block has at
+/// least `first_block` participants, or all if there are fewer. `numbers` has the points of their
+/// processes, one execution after another.
 pub(crate) fn pack(
     alloc: Global,
     inputs: &[Simplex],
@@ -42,13 +45,13 @@ pub(crate) fn pack(
     for (number, simplex) in inputs.iter().enumerate() {
         let size = simplex.colours();
         let count = executions_on(size, first_block, rounds);
-        let run = SimplexRun {
+        let run = SimplexExecutions {
             simplex: number as u32,
             size,
             first: place,
             count,
         };
-        pack_on(&mut executions, &numbers, run)?;
+        pack_simplex(&mut executions, &numbers, run)?;
         place += count as usize * size as usize;
     }
     Ok(executions)
@@ -56,22 +59,22 @@ pub(crate) fn pack(
 
 /// The executions on one simplex, which follow one another.
 #[derive(Clone, Copy)]
-struct SimplexRun {
-    // the number of the simplex
+struct SimplexExecutions {
+    // the index of the simplex
     simplex: u32,
-    // how many processes each of the executions has
+    // the number of processes in each of the executions
     size: u8,
-    // the place where the numbers of their points begin
+    // the position at which their points begin in the list of points
     first: usize,
-    // how many executions there are
+    // the number of executions
     count: u32,
 }
 
-/// Adds the executions of a run, with the points of these numbers.
-fn pack_on(
+/// Appends the executions of `run` to `executions`, with their points from `numbers`.
+fn pack_simplex(
     executions: &mut Vec<PackedExecution>,
     numbers: &[u32],
-    run: SimplexRun,
+    run: SimplexExecutions,
 ) -> Result<(), AllocError>
     requires some { 0 < run.size }
     requires few { run.size ≤ 4 }
@@ -84,15 +87,15 @@ fn pack_on(
     for _turn in 0..run.count {
         executions.push(PackedExecution {
             simplex: run.simplex,
-            points: four(&numbers[place..place + size as usize]),
+            points: padded_points(&numbers[place..place + size as usize]),
         })?;
         place += size as usize;
     }
     Ok(())
 }
 
-/// These points, and the first of them again where there are fewer than four.
-fn four(points: &[u32]) -> [u32; 4]
+/// Returns `points`, padded with the first of them to four.
+fn padded_points(points: &[u32]) -> [u32; 4]
     requires some { 0 < length points.now }
     requires few { length points.now ≤ 4 }
     ensures points { result ≡ four_of points.now }

@@ -1,4 +1,4 @@
-//! The r-round protocol complex of a task.
+//! The protocol complex of a task after r rounds.
 
 ghost use Rattle.std.specs.Prelude.{◌≡◌, ◌<◌, ◌≤◌, Some, [], length, map, zip, slice_get, All, AllPairs, IfOk};
 ghost use Rattle.std.specs.List.{slice_index_or};
@@ -14,7 +14,7 @@ ghost use Rattle.wf_complex.specs.ProtocolMade.{IsMade};
 use crate::classes::points_of;
 use crate::fault::BuildFault;
 use crate::firsts::{First, firsts_of};
-use crate::layout::{MOST_EXECUTIONS, execution_count, lay_out, place_count};
+use crate::layout::{MAX_EXECUTIONS, execution_count, lay_out, place_count};
 use crate::packed::{PackedExecution, pack};
 use crate::rounds::{RoundPlan, last_views};
 use crate::views::Views;
@@ -24,27 +24,27 @@ use std::sync::Arc;
 use wf_simplex::Simplex;
 use wf_task::Task;
 
-/// The most rounds.
-const MOST_ROUNDS: u32 = 8;
+/// The largest number of rounds.
+const MAX_ROUNDS: u32 = 8;
 
 /// The protocol complex of a task after some rounds of iterated immediate snapshot (Borowsky and
 /// Gafni 1997): its executions, and its points, which are the views after the last round, or in a
 /// symmetric task their classes.
 ///
-/// Executions are numbered simplex by simplex, and on one simplex by the
-/// words of the first round, then the second and so on; points are numbered
-/// by first appearance, execution by execution and by ascending process.
+/// Executions and points have indices from 0. Executions are ordered simplex by simplex, and on one
+/// simplex by the word of the first round, then of the second, and so on. Points are ordered by
+/// first appearance, execution by execution and by ascending process.
 #[derive(Drop)]
 pub struct Protocol {
     rounds: u32,
     views: Views,
-    // how many different last views there are
+    // the number of different last views
     view_count: u32,
-    // the class of each point, by its number among the views
+    // the id of each point's class in `views`
     classes: Vec<u32>,
-    // where each point appears first
+    // the first appearance of each point
     firsts: Vec<First>,
-    // the input simplices: an execution's processes are those of its own
+    // the input simplices, which say what processes an execution has
     inputs: Vec<Simplex>,
     executions: Arc<Vec<PackedExecution>, Global>,
 }
@@ -64,32 +64,36 @@ impl Model for Protocol {
 }
 
 impl Protocol {
-    /// The complex of a task after these rounds.
+    /// Builds the protocol complex of `task` after `rounds` rounds.
     ///
-    /// Refused where there are more than 8 rounds, then where there are more than 500,000
-    /// executions, which are counted before anything is built, and then where memory runs out.
+    /// # Errors
+    ///
+    /// - `Rounds` if there are more than 8 rounds.
+    /// - `TooManyExecutions` if there are more than 500,000 executions. They are counted before
+    ///   anything is built.
+    /// - `OutOfMemory` if memory runs out.
     pub fn build(alloc: Global, task: &Task, rounds: u32) -> Result<Protocol, BuildFault>
         ensures { Builds task.now rounds result }
     {
-        if rounds > MOST_ROUNDS {
+        if rounds > MAX_ROUNDS {
             return Err(BuildFault::Rounds);
         }
         let inputs = task.inputs().simplices();
         let first_block = task.first_block();
-        if execution_count(inputs, first_block, rounds) > MOST_EXECUTIONS {
+        if execution_count(inputs, first_block, rounds) > MAX_EXECUTIONS {
             return Err(BuildFault::TooManyExecutions);
         }
         Ok(complex_from(alloc, inputs, task.symmetric(), first_block, rounds)?)
     }
 
-    /// The number of rounds.
+    /// Returns the number of rounds.
     pub fn rounds(&self) -> u32
         ensures { result ≡ self.now.rounds }
     {
         self.rounds
     }
 
-    /// How many points there are.
+    /// Returns the number of points.
     pub fn points(&self) -> u32
         ensures points { result ≡ length self.now.points }
         ensures few { result ≤ most_points }
@@ -97,7 +101,7 @@ impl Protocol {
         self.classes.len() as u32
     }
 
-    /// How many executions there are.
+    /// Returns the number of executions.
     pub fn executions(&self) -> u32
         ensures executions { result ≡ length self.now.scopes }
         ensures few { result ≤ most_executions }
@@ -105,7 +109,7 @@ impl Protocol {
         self.executions.len() as u32
     }
 
-    /// The number of the input simplex that an execution is on.
+    /// Returns the index of the input simplex of the execution with index `execution`.
     pub fn simplex_of(&self, execution: u32) -> u32
         requires { execution < length self.now.scopes }
         ensures { slice_get self.now.simplices execution ≡ Some result }
@@ -113,7 +117,8 @@ impl Protocol {
         self.executions[execution as usize].simplex
     }
 
-    /// The point of a process in an execution; `None` where it does not take part.
+    /// Returns the point of `process` in the execution with index `execution`, or `None` if the
+    /// process does not take part.
     pub fn point_at(&self, execution: u32, process: u8) -> Option<u32>
         requires { execution < length self.now.scopes }
         ensures { result ≡ point_in process (slice_index_or self.now.scopes execution []) }
@@ -123,7 +128,7 @@ impl Protocol {
         point_among(simplex, self.points_of(execution), process)
     }
 
-    /// The points of an execution, by ascending process.
+    /// Returns the points of the execution with index `execution`, by ascending process.
     pub fn points_of(&self, execution: u32) -> &[u32]
         requires { execution < length self.now.scopes }
         ensures { result.now ≡ map (λ at. at.1) (slice_index_or self.now.scopes execution []) }
@@ -133,9 +138,11 @@ impl Protocol {
         &at.points[..simplex.colours() as usize]
     }
 
-    /// The executions as they are packed, which are shared and not copied.
+    /// Returns all executions in their packed form. They are shared and not copied.
     ///
-    /// Refused, for instance, if too many share them.
+    /// # Errors
+    ///
+    /// Returns `AllocError`, for instance if there are too many references to them.
     pub fn packed(&self) -> Result<Arc<Vec<PackedExecution>, Global>, AllocError>
         ensures packed { IfOk result (λ executions. ArePacked self.now executions.value.items) }
         ensures few { IfOk result
@@ -144,8 +151,8 @@ impl Protocol {
         Arc::try_clone(&self.executions)
     }
 
-    /// The number of a point's view, or in a symmetric task that of its
-    /// class, in the table of views.
+    /// Returns the id, in [`Protocol::views`], of the view of `point`, or in a symmetric task of
+    /// its class.
     pub fn view_of(&self, point: u32) -> u32
         requires { point < length self.now.points }
         ensures { slice_get self.now.table result ≡ slice_get self.now.points point }
@@ -153,7 +160,7 @@ impl Protocol {
         self.classes[point as usize]
     }
 
-    /// The execution and the process in which a point appears first.
+    /// Returns the execution and the process in which `point` appears first.
     pub fn first_of(&self, point: u32) -> (u32, u8)
         requires { point < length self.now.points }
         ensures { slice_get self.now.firsts point ≡ Some result }
@@ -162,14 +169,15 @@ impl Protocol {
         (first.execution, first.process)
     }
 
-    /// How many different last views there are. In a symmetric task several may be one point.
+    /// Returns the number of different last views. In a symmetric task several of them may be one
+    /// point.
     pub fn view_count(&self) -> u32
         ensures { result ≡ self.now.view_count }
     {
         self.view_count
     }
 
-    /// The views, under their numbers.
+    /// Returns the table of views.
     pub fn views(&self) -> &Views
         ensures { result.now ≡ self.now.table }
     {
@@ -177,8 +185,8 @@ impl Protocol {
     }
 }
 
-/// The complex of these input simplices, with words whose first block has at least `first_block`
-/// participants, or all where they are fewer.
+/// Builds the protocol complex on the input simplices `inputs`. In each round, the first block has
+/// at least `first_block` participants, or all if there are fewer.
 fn complex_from(
     alloc: Global,
     inputs: &[Simplex],
@@ -214,7 +222,7 @@ fn complex_from(
     })
 }
 
-/// Input simplices, the executions on them, and where their points appear first.
+/// Input simplices, the executions on them, and the first appearances of their points.
 #[derive(Drop)]
 struct LaidOut {
     inputs: Vec<Simplex>,
@@ -222,8 +230,9 @@ struct LaidOut {
     firsts: Vec<First>,
 }
 
-/// These input simplices, the executions on them, whose processes have these points, and where the
-/// points appear that are first at these places.
+/// Returns `inputs` with the executions on them and the first appearances of the points. `numbers`
+/// are the points of the executions' processes, one execution after another, and `places` the
+/// positions in this list at which the points appear first.
 fn place_all(
     alloc: Global,
     inputs: &[Simplex],
@@ -257,8 +266,8 @@ fn place_all(
     })
 }
 
-/// The execution and the process of each of these places, which ascend, among all those of the
-/// executions on these input simplices.
+/// Returns the execution and the process at each of `places`, which are ascending positions in the
+/// list of last views of all executions on `inputs`.
 fn firsts_among(
     alloc: Global,
     inputs: &[Simplex],
@@ -280,7 +289,8 @@ fn firsts_among(
     firsts_of(alloc, inputs, &spans, places)
 }
 
-/// The point of a process, where the processes of a simplex have these points.
+/// Returns the item of `points` that belongs to `process`. `points` has one item for each process
+/// of `simplex`.
 fn point_among(simplex: &Simplex, points: &[u32], process: u8) -> Option<u32>
     requires { length simplex.now ≡ length points.now }
     ensures { result ≡ point_in process (zip (processes_of simplex.now) points.now) }

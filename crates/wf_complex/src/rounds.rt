@@ -1,4 +1,4 @@
-//! One more round of immediate snapshots, on views by their numbers.
+//! The views after one more round of immediate snapshot, by their ids.
 
 ghost use Rattle.std.specs.Prelude.{◌≡◌, ◌<◌, ◌≤◌, ◌+◌, ◌++◌, length, take, flat_map, slice_index, get_or, slice_get, Some, All, IfOk, OnOk};
 ghost use Rattle.wf_model.specs.Limits.{most_number, most_processes};
@@ -9,10 +9,10 @@ use crate::views::Views;
 use std::alloc::{AllocError, Global};
 use wf_simplex::{Simplex, Word, allowed_count};
 
-/// How many answers there are for each place: one for each set of places that it may see.
+/// The number of cache slots for each participant: one for each set of places that it may see.
 const ANSWERS: usize = 16;
 
-/// At most four numbers of views.
+/// A list of at most four view ids.
 #[derive(Clone, Copy)]
 struct Ids {
     count: usize,
@@ -20,7 +20,7 @@ struct Ids {
 }
 
 impl Ids {
-    /// Adds a number at the end, where it is wanted.
+    /// Appends `id` if `wanted` is `true`.
     fn push_if(&mut self, wanted: bool, id: u32)
         requires { self.old.count < 4 }
         ensures count { self.new.count ≤ self.old.count + 1 }
@@ -33,26 +33,28 @@ impl Ids {
     }
 }
 
-/// A word, and whom each participant sees, as bits: bit j is set where it sees that of place j.
+/// A word, and for each participant whom it sees: bit `j` of `seen[i]` is set if the participant at
+/// place `i` sees the one at place `j`.
 #[derive(Clone, Copy)]
-struct Sight {
+struct ImmediateSnapshot {
     word: Word,
     seen: [u8; 4],
 }
 
-/// The sights that a round of so many participants may be.
+/// The sights of all words of one size that the task allows.
 #[derive(Drop)]
 struct Round {
-    // how many participants there are, or 0 where no sight is made yet
+    // the number of participants, or 0 if no sights were made yet
     size: u8,
-    sights: Vec<Sight>,
+    sights: Vec<ImmediateSnapshot>,
 }
 
 impl Round {
-    /// Makes the sights of this size whose first block has at least `first_block` participants,
-    /// or all where they are fewer. Those that are there already stay.
+    /// Replaces the sights by those of `size` participants whose first block has at least
+    /// `first_block` of them, or all if there are fewer. If they are of that size already, they are
+    /// kept.
     ///
-    /// Simplices come by ascending size, so each size is made once.
+    /// Simplices come by ascending size, so the sights of each size are made once.
     fn make(&mut self, alloc: Global, size: u8, first_block: u8) -> Result<(), AllocError>
         requires some { 1 ≤ size }
         requires few { size ≤ 4 }
@@ -70,9 +72,9 @@ impl Round {
     }
 }
 
-/// The sights of so many participants whose first block has at least `first_block` of them, or
-/// all where they are fewer, in the order of their words.
-fn sights_of(alloc: Global, size: u8, first_block: u8) -> Result<Vec<Sight>, AllocError>
+/// Returns the sights of `size` participants whose first block has at least `first_block` of them,
+/// or all if there are fewer, in the order of their words.
+fn sights_of(alloc: Global, size: u8, first_block: u8) -> Result<Vec<ImmediateSnapshot>, AllocError>
     requires some { 1 ≤ size }
     requires few { size ≤ 4 }
     requires one { 1 ≤ first_block }
@@ -89,8 +91,8 @@ fn sights_of(alloc: Global, size: u8, first_block: u8) -> Result<Vec<Sight>, All
     Ok(all)
 }
 
-/// Whom each participant of a word sees.
-fn sight_of(word: Word) -> Sight
+/// Returns `word` with whom each of its participants sees.
+fn sight_of(word: Word) -> ImmediateSnapshot
     ensures word { result.word ≡ word }
     ensures seen { IsSight result }
 {
@@ -98,10 +100,11 @@ fn sight_of(word: Word) -> Sight
     for i in 0..word.size() {
         seen[i as usize] = places_seen(&word, i);
     }
-    Sight { word, seen }
+    ImmediateSnapshot { word, seen }
 }
 
-/// Whom participant i sees, as bits.
+/// Returns the places that participant `i` of `word` sees: bit `j` is set if it sees participant
+/// `j`.
 fn places_seen(word: &Word, i: u8) -> u8
     requires place { i < length word.now }
     ensures places { result ≡ places_seen (slice_index word.now i) word.now }
@@ -115,7 +118,7 @@ fn places_seen(word: &Word, i: u8) -> u8
     places
 }
 
-/// The numbers at these places, which are given as bits.
+/// Returns the items of `current` at the indices whose bits are set in `places`.
 fn picked(current: &[u32], places: u8) -> Ids
     requires few { length current.now ≤ 4 }
     ensures count { result.count ≤ 4 }
@@ -133,9 +136,12 @@ fn picked(current: &[u32], places: u8) -> Ids
     seen
 }
 
-/// The numbers of the views of an input simplex before the first round, by ascending process.
+/// Returns the ids of the views of the input `simplex` before the first round, by ascending
+/// process.
 ///
-/// Refused where memory runs out; the views so far keep their numbers.
+/// # Errors
+///
+/// Returns `AllocError` if memory runs out; all views in the table keep their ids.
 fn first_views(views: &mut Views, simplex: &Simplex) -> Result<[u32; 4], AllocError>
     requires room { length views.old + 4 ≤ most_number }
     ensures extends { Extends views.old views.new }
@@ -154,15 +160,19 @@ fn first_views(views: &mut Views, simplex: &Simplex) -> Result<[u32; 4], AllocEr
     Ok(ids)
 }
 
-/// The number of the view of participant i after one more round. It depends on the places that i
-/// sees alone, so it is asked for once and kept: at `ANSWERS` times i and the bits of those places.
+/// Returns the id of the view that the participant at place `i` has after one more round.
 ///
-/// Refused where memory runs out; the views so far keep their numbers.
+/// The view depends only on `i` and on the places that `i` sees, so it is looked up once and cached
+/// in `known`, at index `16 * i` plus the bits of these places.
+///
+/// # Errors
+///
+/// Returns `AllocError` if memory runs out; all views in the table keep their ids.
 fn next_view(
     views: &mut Views,
     known: &mut [Option<u32>],
     current: &[u32],
-    sight: &Sight,
+    sight: &ImmediateSnapshot,
     i: u8,
 ) -> Result<u32, AllocError>
     requires long { length current.now ≡ length sight.now.word }
@@ -190,15 +200,18 @@ fn next_view(
     Ok(id)
 }
 
-/// The numbers of the views after one more round, by ascending process. Views
-/// that are new get the next numbers.
+/// Returns the ids of the views after one more round, by ascending process. `current` are the ids
+/// before it, `sight` is what happens in it, and `known` is the cache of [`next_view`]. New views
+/// get the next ids.
 ///
-/// Refused where memory runs out; the views so far keep their numbers.
+/// # Errors
+///
+/// Returns `AllocError` if memory runs out; all views in the table keep their ids.
 fn next_views(
     views: &mut Views,
     known: &mut [Option<u32>],
     current: &[u32],
-    sight: &Sight,
+    sight: &ImmediateSnapshot,
 ) -> Result<[u32; 4], AllocError>
     requires long { length current.now ≡ length sight.now.word }
     requires views { AreViews views.old current.now }
@@ -219,15 +232,18 @@ fn next_views(
     Ok(next)
 }
 
-/// Adds the views after all rounds, each of which is one of these sights, execution by
-/// execution, to the last views of those before.
+/// Appends to `lasts` the last views of all executions that go on from the views `current` for
+/// `rounds` rounds, each of which is one of `sights`. It goes depth first, so the executions come
+/// in order.
 ///
-/// Refused where memory runs out; the views so far keep their numbers.
+/// # Errors
+///
+/// Returns `AllocError` if memory runs out; all views in the table keep their ids.
 fn walk(
     views: &mut Views,
     lasts: &mut Vec<u32>,
     current: &[u32],
-    sights: &[Sight],
+    sights: &[ImmediateSnapshot],
     rounds: u32,
 ) -> Result<(), AllocError>
     requires few { length current.now ≤ most_processes }
@@ -256,19 +272,19 @@ fn walk(
     Ok(())
 }
 
-/// How the executions on a simplex are made.
+/// The rounds for which executions are made.
 #[derive(Clone, Copy)]
 pub(crate) struct RoundPlan {
-    /// The least number of participants in the first block of a round, but for rounds with fewer
-    /// participants, which have all in that block.
+    /// The least number of participants in the first block of a round. A round with fewer
+    /// participants has all of them in that block.
     pub first_block: u8,
-    /// How many rounds there are.
+    /// The number of rounds.
     pub rounds: u32,
 }
 
-/// The last views of all executions on these simplices by this plan, one after another: simplex by
-/// simplex, execution by execution, and by ascending process. Room is made for `room` of them at
-/// once.
+/// Returns the last views of all executions on `simplices` by `plan`, one after another: simplex by
+/// simplex, execution by execution, and by ascending process. `room` is the capacity with which the
+/// list is created.
 pub(crate) fn last_views(
     alloc: Global,
     views: &mut Views,

@@ -13,26 +13,30 @@ ghost use Rattle.wf_complex.specs.Views.{view_at, view_seen, processes_at, with_
 ghost use Rattle.wf_complex.specs.Table.{StandsAt, process_bits_at};
 ghost use Rattle.wf_complex.specs.Renaming.{rank_in, are_lowest, renamed_at, SawAmong, AreInside, AreRenamed};
 
-use crate::node::{Node, input, number_beside, renumber, snapshot};
+use crate::node::{Node, input, new_id, renumber, snapshot};
 use indexmap::IndexSet;
 use std::alloc::{AllocError, Global};
 use std::marker::Model;
 
-/// Views under numbers from 0 on, each once. In contracts a table is the list of its views.
+/// A table of views, in which each view occurs once. The id of a view is its index, from 0.
+/// Contracts see the table as the list of its views.
+///
+/// An id is never changed or removed.
 #[derive(Drop)]
 pub struct Views {
-    // the entry of each view, in the order of their numbers
+    // the entries of the views, in the order of their ids
     nodes: IndexSet<Node>,
-    // the processes that occur in each view
+    // for each view the set of the processes that occur in it
     bits: Vec<u8>,
-    // for some entries that were numbered lately their numbers, and else anything
+    // a cache of ids, by `slot_of` their entries: an item may be the id of another entry, and is
+    // compared before use
     recent: [u32; RECENT],
 }
 
-/// How many entries that were numbered lately are looked at first.
+/// The number of slots in the cache of recently used ids.
 const RECENT: usize = 256;
 
-/// Room is made for so many views inside a view, and more where there are more.
+/// The initial capacity of a list of the views inside a view.
 const ROOM: usize = 16;
 
 impl Model for Views {
@@ -53,7 +57,7 @@ impl Model for Views {
 impl Views {
     ghost use Rattle.wf_complex.specs.Table.{IsEntry, node_view};
 
-    /// A table without views. It takes no memory; later calls take theirs from the same allocator.
+    /// Creates an empty table. It does not allocate; later calls allocate from `alloc`.
     pub fn start(alloc: Global) -> Views
         ensures { result ≡ [] }
     {
@@ -64,7 +68,7 @@ impl Views {
         }
     }
 
-    /// How many views there are.
+    /// Returns the number of views in the table.
     pub fn len(&self) -> u32
         ensures count { result ≡ length self.now }
         ensures once { distinct same_view self.now ≡ self.now }
@@ -72,10 +76,12 @@ impl Views {
         self.nodes.len() as u32
     }
 
-    /// The number of the view of a process before the first round, when it knows its input alone.
+    /// Returns the id of the view of `process` before the first round, when it knows only its input
+    /// `value`. A new view gets the next id.
     ///
-    /// Where the view is new it gets the next number. Refused where memory
-    /// runs out, which leaves the table as it was.
+    /// # Errors
+    ///
+    /// Returns `AllocError` if memory runs out; the table is then unchanged.
     pub fn base(&mut self, process: u8, value: u8) -> Result<u32, AllocError>
         requires process { process ≤ 3 }
         requires room { length self.old < most_number }
@@ -86,11 +92,13 @@ impl Views {
         self.number(input(process, value))
     }
 
-    /// The number of the view of a process that saw these views, named by their numbers in the
-    /// order of their processes, its own among them.
+    /// Returns the id of the view of `process` after it saw the views `parts`. These are given by
+    /// their ids, in ascending order of their processes, and a view of `process` must be among
+    /// them. A new view gets the next id.
     ///
-    /// Where the view is new it gets the next number. Refused where memory
-    /// runs out, which leaves the table as it was.
+    /// # Errors
+    ///
+    /// Returns `AllocError` if memory runs out; the table is then unchanged.
     pub fn seen(&mut self, process: u8, parts: &[u32]) -> Result<u32, AllocError>
         requires process { process ≤ 3 }
         requires numbers { All (λ k. k < length self.old) parts.now }
@@ -104,12 +112,12 @@ impl Views {
         ensures stands { IfOk result
             (λ n. slice_get self.new n ≡ Some (view_seen self.old process parts.now)) }
     {
-        // for the proof alone, which reads of the table that at most four processes have views
+        // needed by the proof only: it makes known that at most four processes have views
         let _ = &self.nodes;
         self.number(snapshot(process, parts))
     }
 
-    /// The process of a view.
+    /// Returns the process of the view `id`.
     pub fn colour(&self, id: u32) -> u8
         requires { id < length self.now }
         ensures process { result ≡ process_of (view_at self.now id) }
@@ -117,7 +125,8 @@ impl Views {
         self.entry(id).process
     }
 
-    /// The value of an input; `None` for the view of a process that saw views.
+    /// Returns the input value of the view `id`, or `None` if it is not an input but a view of a
+    /// process that saw views.
     pub fn input(&self, id: u32) -> Option<u8>
         requires { id < length self.now }
         ensures value { result ≡ input_of (view_at self.now id) }
@@ -130,7 +139,8 @@ impl Views {
         }
     }
 
-    /// The processes that occur in a view, at any depth: bit p is set where process p does.
+    /// Returns the set of the processes that occur in the view `id` at any depth: bit `p` is set if
+    /// process `p` does.
     pub fn colours_in(&self, id: u32) -> u8
         requires { id < length self.now }
         ensures bits { result ≡ process_bits (view_at self.now id) }
@@ -138,8 +148,8 @@ impl Views {
         self.bits[id as usize]
     }
 
-    /// The numbers of the views that a view saw, in the order of their
-    /// processes. An input saw none.
+    /// Returns the ids of the views that the view `id` saw, in ascending order of their processes.
+    /// An input saw none.
     pub fn parts(&self, id: u32) -> &[u32]
         requires { id < length self.now }
         ensures views { map (view_at self.now) result.now ≡ inner_views (view_at self.now id) }
@@ -148,13 +158,17 @@ impl Views {
         self.entry(id).parts()
     }
 
-    /// The number of a view with each process replaced by its rank among those that occur in it, at
-    /// every depth. Where no process is left out below another that is the view itself, which is
-    /// seen at once.
+    /// Returns the id of the view `id` with each process replaced, at every depth, by its rank
+    /// among the processes that occur in the view.
     ///
-    /// Else the views inside it, renamed alike, get numbers too: at most one new view for each
-    /// different view inside. Refused where memory runs out, which leaves each number with its
-    /// view; some of the new views may stand then.
+    /// If these are the processes from 0 on without a gap, then it is the view itself, which is
+    /// detected at once. Otherwise the views inside it are renamed in the same way, and at most one
+    /// new view is added for each different view inside and for the view itself.
+    ///
+    /// # Errors
+    ///
+    /// Returns `AllocError` if memory runs out. All views then keep their ids, and some of the new
+    /// views may have been added.
     pub fn normal(&mut self, id: u32) -> Result<u32, AllocError>
         requires id { id < length self.old }
         requires room { length self.old + count_within (view_at self.old id) ≤ most_number }
@@ -166,7 +180,7 @@ impl Views {
     {
         let alloc = *self.nodes.allocator();
         let processes = self.colours_in(id);
-        if are_lowest(processes) {
+        if has_no_gap(processes) {
             return Ok(id);
         }
         let inside = self.inside(id)?;
@@ -175,10 +189,10 @@ impl Views {
             let number = self.put_renamed(*old, processes, &inside, &numbers)?;
             numbers.push(number)?;
         }
-        Ok(number_beside(&inside, &numbers, id))
+        Ok(new_id(&inside, &numbers, id))
     }
 
-    /// The numbers of a view and of the views inside it, ascending.
+    /// Returns the ids of the view `id` and of all views inside it, in ascending order.
     fn inside(&self, id: u32) -> Result<Vec<u32>, AllocError>
         requires { id < length self.now }
         ensures { IfOk result (λ ids. AreInside self.now id ids.items) }
@@ -194,8 +208,9 @@ impl Views {
         Ok(inside)
     }
 
-    /// The number of a view with its processes replaced by their ranks in a set. The new numbers of
-    /// the views in it stand beside their old ones.
+    /// Returns the id of the view `id` with its processes replaced by their ranks in the set
+    /// `processes`. The views inside it must have been renamed before: `new[i]` is the id of the
+    /// renamed view `old[i]`.
     fn put_renamed(
         &mut self,
         id: u32,
@@ -221,7 +236,7 @@ impl Views {
         self.number(renumber(node, rank(processes, node.process), old, new))
     }
 
-    /// The entry of the view of this number.
+    /// Returns the entry of the view `id`.
     fn entry(&self, id: u32) -> &Node
         requires { id < length self.now }
         ensures entry { IsEntry id result.now }
@@ -230,7 +245,8 @@ impl Views {
         &self.nodes[id as usize]
     }
 
-    /// The number of an entry's view. A new view gets the next number.
+    /// Returns the id of an entry's view. A new view gets the next id. The cache of recent ids is
+    /// tried before the hash table.
     fn number(&mut self, node: Node) -> Result<u32, AllocError>
         requires room { length self.old < most_number }
         requires entry { IsEntry (length self.old) node }
@@ -247,8 +263,8 @@ impl Views {
         Ok(number)
     }
 
-    /// The number of an entry's view, found by the entry's hash, which is computed once. A new view
-    /// gets the next number.
+    /// Returns the id of an entry's view by the hash table, for which the entry is hashed once. A
+    /// new view gets the next id.
     fn number_by_hash(&mut self, node: Node) -> Result<u32, AllocError>
         requires room { length self.old < most_number }
         requires entry { IsEntry (length self.old) node }
@@ -268,7 +284,7 @@ impl Views {
     }
 }
 
-/// The number, where the entry stands there.
+/// Returns `number` if `node` is the entry with that id.
 fn recent_number(nodes: &[Node], number: u32, node: Node) -> Option<u32>
     ensures { IfSome result (λ n. StandsAt nodes.now n node) }
 {
@@ -280,7 +296,7 @@ fn recent_number(nodes: &[Node], number: u32, node: Node) -> Option<u32>
     }
 }
 
-/// Where among the recent ones an entry is looked for.
+/// Returns the slot of `node` in the cache of recent ids.
 fn slot_of(node: Node) -> usize
     ensures { result < 256 }
 {
@@ -295,7 +311,8 @@ fn slot_of(node: Node) -> usize
     (mixed >> 20) as usize % RECENT
 }
 
-/// The processes that occur in the view of one that saw these.
+/// Returns the set of the processes that occur in the view of `process` after it saw the views
+/// `ids`. `bits` has these sets for the views so far.
 fn process_bits_seen(bits: &[u8], process: u8, ids: &[u32]) -> u8
     requires process { process ≤ 3 }
     requires numbers { All (λ k. k < length bits.now) ids.now }
@@ -308,8 +325,10 @@ fn process_bits_seen(bits: &[u8], process: u8, ids: &[u32]) -> u8
     all
 }
 
-/// Puts these numbers among others that ascend, each once. There are few others: of the views
-/// inside a view of an execution at most four a round.
+/// Inserts `numbers` into `among`, which ascends and keeps each number once.
+///
+/// `among` is searched from its front, since it is short: the views inside a view of an execution
+/// are at most four for each round.
 fn put_all(among: &mut Vec<u32>, numbers: &[u32]) -> Result<(), AllocError>
     ensures { OnOk result
         (among.new.items ≡ fold (insert_key nat_cmp) among.old.items numbers.now) }
@@ -320,7 +339,7 @@ fn put_all(among: &mut Vec<u32>, numbers: &[u32]) -> Result<(), AllocError>
     Ok(())
 }
 
-/// Puts a number before the first that is no lower, unless it stands there.
+/// Inserts `number` into `among`, which ascends, unless it is there already.
 fn put(among: &mut Vec<u32>, number: u32) -> Result<(), AllocError>
     ensures { OnOk result (among.new.items ≡ insert_key nat_cmp among.old.items number) }
 {
@@ -332,7 +351,8 @@ fn put(among: &mut Vec<u32>, number: u32) -> Result<(), AllocError>
     Ok(())
 }
 
-/// The place of the first number that is no lower than this one.
+/// Returns the index of the first of `numbers` that is at least `number`, or their count if there
+/// is none.
 fn place_of(numbers: &[u32], number: u32) -> usize
     ensures within { result ≤ length numbers.now }
     ensures lower { All (λ n. n < number) (take result numbers.now) }
@@ -346,7 +366,7 @@ fn place_of(numbers: &[u32], number: u32) -> usize
     numbers.len()
 }
 
-/// Whether the number stands at the place.
+/// Returns `true` if `number` is at index `place` of `numbers`.
 fn stands_at(numbers: &[u32], place: usize, number: u32) -> bool
     ensures { result ≡ (nat_lt place (length numbers.now)
         && slice_index numbers.now place == number) }
@@ -354,15 +374,16 @@ fn stands_at(numbers: &[u32], place: usize, number: u32) -> bool
     place < numbers.len() && numbers[place] == number
 }
 
-/// Whether a set of processes leaves none out below another, so that each is its own rank: bit p is
-/// set where process p is in the set.
-fn are_lowest(processes: u8) -> bool
+/// Returns `true` if the set `processes` consists of the processes from 0 on without a gap, so that
+/// each is its own rank. Bit `p` is set if process `p` is in the set.
+fn has_no_gap(processes: u8) -> bool
     ensures { result ≡ are_lowest processes }
 {
     matches!(processes, 0b1 | 0b11 | 0b111 | 0b1111)
 }
 
-/// How many processes of a set are below this one: bit p is set where process p is in the set.
+/// Returns the rank of `process`: the number of processes in the set `processes` that are below it.
+/// Bit `p` is set if process `p` is in the set.
 fn rank(processes: u8, process: u8) -> u8
     requires { process ≤ 3 }
     ensures { result ≡ rank_in processes process }

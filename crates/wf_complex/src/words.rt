@@ -8,10 +8,12 @@ use crate::views::Views;
 use std::alloc::AllocError;
 use std::fmt::Write as _;
 
-/// Adds the view of this number, with the views inside it: `p1 saw {p0=0, p1=1}`. With `ranks`
-/// processes go by their ranks, as in a class: `#1 saw {#0=0, #1=1}`.
+/// Appends the view `id` with all views inside it, such as `p1 saw {p0=0, p1=1}`. With `ranks`, its
+/// processes are ranks, as in a class, and are written so: `#1 saw {#0=0, #1=1}`.
 ///
-/// Where memory runs out, a beginning of it may have been added.
+/// # Errors
+///
+/// Returns `AllocError` if memory runs out; `text` may then end in a part of the view.
 pub fn put_view(text: &mut String, views: &Views, ranks: bool, id: u32) -> Result<(), AllocError>
     requires { id < length views.now }
     ensures { OnOk result (string_bytes text.new
@@ -33,7 +35,7 @@ pub fn put_view(text: &mut String, views: &Views, ranks: bool, id: u32) -> Resul
     Ok(())
 }
 
-/// Adds a process, by its number or by its rank.
+/// Appends `process`: `#` and the rank with `ranks`, and `p` and the process otherwise.
 fn put_process(text: &mut String, ranks: bool, process: u8) -> Result<(), AllocError>
     ensures { OnOk result (string_bytes text.new
         ≡ string_bytes text.old ++ process_text ranks process) }

@@ -1,4 +1,4 @@
-//! What happens to the pool, and how an event is refused.
+//! Events of a pool of workers, and the reasons why an event is illegal.
 
 ghost use Rattle.std.specs.Prelude.{◌≡◌};
 ghost use Rattle.wf_core.specs.declared.event.CoreFault.TheVariants.{OutOfMemory};
@@ -6,71 +6,71 @@ ghost use Rattle.wf_core.specs.declared.event.CoreFault.TheVariants.{OutOfMemory
 use std::alloc::AllocError;
 use thiserror::Error;
 
-/// How far a branch is.
+/// The status of a branch.
 #[derive(Clone, Copy, Debug, PartialEq, Eq)]
 pub enum Status {
-    /// No worker has taken it.
+    /// No worker has taken the branch.
     Free,
-    /// This worker has taken it and has not settled it.
+    /// The worker of this number has taken the branch and not settled it yet.
     Held(u32),
-    /// It was searched, and has no map.
+    /// The branch was searched and has no decision map.
     Refuted,
-    /// It was searched, and has a map.
+    /// The branch was searched and has a decision map.
     Posted,
-    /// It was given up unsearched, since a lower branch has a map.
+    /// The branch was given up without a result, because a lower branch has a decision map.
     Cut,
 }
 
-/// One atomic step of a worker.
+/// An event: one atomic step of a worker. Workers and branches are numbered from 0.
 #[derive(Clone, Copy, Debug, PartialEq, Eq)]
 pub enum Event {
     /// The worker takes the free branch.
     Take { worker: u32, branch: u32 },
-    /// The worker sees the least posted number.
+    /// The worker reads the least posted branch.
     Look { worker: u32 },
-    /// The worker found a map in its branch.
+    /// The worker found a decision map in its branch, and posts it.
     Post { worker: u32, branch: u32 },
-    /// The worker found that its branch has no map.
+    /// The worker found that its branch has no decision map.
     Searched { worker: u32, branch: u32 },
-    /// The worker gives its branch up, since it has seen a lower one posted.
+    /// The worker gives up its branch, because it has seen a lower one posted.
     Cut { worker: u32, branch: u32 },
-    /// The worker stops.
+    /// The worker stops. It holds no branch.
     End { worker: u32 },
 }
 
-/// Why an event is refused. Where several reasons hold, the first in this order is given.
+/// The reason why an event is illegal. If several hold, the first in this order is reported.
 #[derive(Clone, Copy, Debug, PartialEq, Eq, Error)]
 pub enum Illegal {
-    /// There is no worker of this number.
+    /// No worker has this number.
     #[error("there is no such worker")]
     NoWorker,
-    /// There is no branch of this number.
+    /// No branch has this number.
     #[error("there is no such branch")]
     NoBranch,
-    /// The worker has ended.
+    /// The worker has already ended.
     #[error("the worker has ended")]
     Ended,
-    /// The worker holds a branch that it has not settled.
+    /// The worker still holds a branch that it has not settled.
     #[error("the worker holds a branch")]
     Busy,
     /// The branch to take is not free.
     #[error("the branch is not free")]
     NotFree,
-    /// The branch to settle is not held by the worker.
+    /// The worker does not hold the branch that it settles.
     #[error("the worker does not hold the branch")]
     NotHeld,
-    /// The worker has not seen a number below the branch that it gives up.
+    /// The worker has not seen a posted branch below the branch that it gives up.
     #[error("the worker has seen no lower branch posted")]
     NotBelow,
 }
 
-/// Why a list of events was not run to its end.
+/// The reason why [`Core::run`](crate::Core::run) did not run a list of events to its end.
 #[derive(Clone, Copy, Debug, PartialEq, Eq, Error)]
 pub enum CoreFault {
-    /// The event at this place of the list is the first that is refused, for this reason.
+    /// The event at index `at` of the list is the first illegal one, for the reason `why`.
     #[error("event {at} is illegal: {why}")]
     Illegal { at: usize, why: Illegal },
-    /// There was no memory for the opening state.
+    /// Memory ran out for the opening state.
     #[error("out of memory")]
     OutOfMemory,
 }
@@ -83,9 +83,9 @@ impl From<AllocError> for CoreFault {
     }
 }
 
-/// What a finished pool did: its number of branches, the least posted one (or
-/// the number of branches, where none was posted), how many were searched,
-/// with or without a map, and how many were cut.
+/// The result of a finished pool: `branches` is the number of branches, `least` the least posted
+/// one (or `branches`, if none was posted), `searched` the number of branches that were searched,
+/// with or without a map, and `cut` the number of branches given up.
 #[derive(Clone, Copy, Debug, PartialEq, Eq)]
 pub struct Account {
     pub branches: u32,

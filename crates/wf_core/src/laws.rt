@@ -1,5 +1,5 @@
-//! What holds after every list of legal events. Each law is the contract of a
-//! function that does nothing.
+//! What holds after every list of legal events. Each law is a function with an empty body, and its
+//! contract is what is proved.
 
 ghost use Rattle.wf_core.specs.Laws.{EventsThatAreNotRefusedHaveAStep, AStepLeavesOneState};
 ghost use Rattle.wf_core.specs.Laws.{ListsRunOrStop, ListsThatRunDoNotStop, ARunLeavesOneState, ListsStopAtOnePlace};
@@ -7,13 +7,15 @@ ghost use Rattle.wf_core.specs.Laws.{LeastIsPosted, SeenWasPosted, CutLiesAbove,
 ghost use Rattle.wf_core.specs.Laws.{FirstTruePlace};
 ghost use Rattle.wf_core.specs.Laws.{AccountsHaveAllBranches, AccountsAddUp, NoneIsCutWithoutAPost};
 
-/// An event is refused exactly where it has no step, and a step leaves one state.
+/// States that an event is illegal if and only if it has no step, and that each step leads to
+/// exactly one state.
 pub fn steps_are_legal()
     ensures legal { EventsThatAreNotRefusedHaveAStep }
     ensures one { AStepLeavesOneState }
 {}
 
-/// A list of events either runs to one state, or has one first illegal place, with one reason.
+/// States that a list of events either runs to its end, in exactly one state, or has exactly one
+/// first illegal event, with exactly one reason.
 pub fn lists_run_or_stop()
     ensures either { ListsRunOrStop }
     ensures not_both { ListsThatRunDoNotStop }
@@ -21,33 +23,35 @@ pub fn lists_run_or_stop()
     ensures one_place { ListsStopAtOnePlace }
 {}
 
-/// The least number is the least posted branch, or the number of branches.
-/// What a worker has seen was posted, or is the number of branches, and is
-/// not below the least. Each cut branch lies above a posted one.
+/// States the invariants of every run of legal events: the least number is the least posted branch,
+/// or the number of branches if none is posted; a number that a worker has seen is a posted branch
+/// or the number of branches, and not below the least number; and each cut branch is above a posted
+/// one.
 pub fn what_runs_keep()
     ensures least { LeastIsPosted }
     ensures seen { SeenWasPosted }
     ensures cut { CutLiesAbove }
 {}
 
-/// A worker holds the branches that it took and has not settled: no branch is held by two workers,
-/// no worker holds two branches, and the statuses say who holds what.
+/// States that the statuses say who holds what: a branch has the status `Held(w)` if and only if
+/// worker `w` took it and has not settled it since. No branch is held by two workers, and no worker
+/// holds two branches.
 pub fn no_branch_is_held_twice()
     ensures status { HeldIsHeld }
     ensures one_worker { OneWorker }
     ensures one_branch { OneBranch }
 {}
 
-/// Once all branches are settled, the least number is the first branch that
-/// has a map, or the number of branches: for every list of truth values that
-/// is true at each posted and false at each refuted branch.
+/// States that, once all branches are settled, the least number is the first branch that has a map,
+/// or the number of branches if none has. Which branches have a map may be any list of truth values
+/// that is true at the posted branches and false at the refuted ones; a cut branch may have one or
+/// not.
 pub fn first_true_place()
     ensures { FirstTruePlace }
 {}
 
-/// What the account of a state says: once all branches are settled, those that were searched and
-/// those that were cut are all branches. Where none is posted, none was cut, and the least number
-/// is the number of branches.
+/// States that the account of a state adds up: once all branches are settled, each was either
+/// searched or cut. If none is posted, then none was cut, and `least` is the number of branches.
 pub fn accounts_add_up()
     ensures branches { AccountsHaveAllBranches }
     ensures sum { AccountsAddUp }

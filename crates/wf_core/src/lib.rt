@@ -1,12 +1,13 @@
-//! The pool of workers as a pure machine.
+//! The pool of workers as a pure state machine, which specifies what the concurrent pool does.
 //!
-//! A pool has B branches and some workers. A worker takes a free branch and settles it: it posts
-//! the branch if it found a map, or finds that it has none, or cuts it, which it may if it has
-//! seen a lower branch posted. `Core` makes these events one by one, or refuses one with the
-//! first reason against it. `specs/Core.antt` says what an event needs and what it does; the
-//! functions of `laws` say what holds after every list of legal events.
+//! A pool has a number of branches and some workers. A worker takes a free branch and settles it:
+//! it posts the branch if it found a map, refutes it if it found that there is none, or cuts it,
+//! for which it must have seen a lower branch posted. [`Core`] performs such [`Event`]s one by one,
+//! or rejects one with the first reason against it. `specs/Core.antt` defines what an event needs
+//! and what it does; the laws, such as [`first_true_place`], say what holds after every list of
+//! legal events.
 //!
-//! A step costs a few look-ups and takes no memory.
+//! A step costs a few look-ups and does not allocate.
 #![tactic(auto)]
 
 mod event;

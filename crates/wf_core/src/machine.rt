@@ -1,4 +1,4 @@
-//! The machine: its state, and its steps.
+//! The state machine: its state and its steps.
 
 ghost use Rattle.std.specs.Prelude.{ℕ, ◌≡◌, ◌<◌, Some, None, length, slice_set, IfOk, IfErr, OnOk, OnErr};
 ghost use Rattle.wf_core.specs.declared.event.Status.TheVariants.{Free, Held};
@@ -9,8 +9,8 @@ use crate::event::{CoreFault, Event, Illegal, Status};
 use std::alloc::{AllocError, Global};
 use std::marker::Model;
 
-/// The state of a pool: each branch's status, the least posted number, and what each worker has
-/// seen. Contracts see it as a `State` of `specs/Core.antt`.
+/// The state of a pool: the status of each branch, the least posted branch, and what each worker
+/// has seen. Contracts see it as a `State` of `specs/Core.antt`.
 #[derive(Drop)]
 pub struct Core {
     branches: Vec<Status>,
@@ -18,7 +18,8 @@ pub struct Core {
     least: u32,
 }
 
-/// The branch that a worker holds is also written here, so that no step looks through the branches.
+/// The state of one worker: the number that it has seen, the branch that it holds, and whether it
+/// has ended. `holds` repeats what the branches' statuses say, so that no step has to search them.
 #[derive(Clone, Copy)]
 struct WorkerState {
     seen: u32,
@@ -41,7 +42,12 @@ impl Model for Core {
 impl Core {
     ghost use Rattle.wf_core.specs.Fields.{IsWorker};
 
-    /// The opening state: all branches free, and no worker has seen a posted one.
+    /// Creates the opening state, in which all branches are free and no worker has seen a posted
+    /// one.
+    ///
+    /// # Errors
+    ///
+    /// Returns `AllocError` if memory runs out.
     pub fn start(alloc: Global, branches: u32, workers: u32) -> Result<Core, AllocError>
         ensures { IfOk result (λ c. c ≡ start branches workers) }
     {
@@ -57,8 +63,13 @@ impl Core {
         })
     }
 
-    /// The state after these events, from the opening state; or the first
-    /// place at which one is illegal, and why.
+    /// Returns the state after `events`, from the opening state of a pool of `branches` branches
+    /// and `workers` workers.
+    ///
+    /// # Errors
+    ///
+    /// Returns `Illegal` with the index of the first illegal event and the reason, or `OutOfMemory`
+    /// if memory runs out for the opening state.
     pub fn run(
         alloc: Global,
         branches: u32,
@@ -78,8 +89,11 @@ impl Core {
         Ok(core)
     }
 
-    /// Makes one step, or refuses the event and changes nothing. It costs a
-    /// few look-ups and no memory.
+    /// Performs `event`, in constant time.
+    ///
+    /// # Errors
+    ///
+    /// Returns the first reason why `event` is illegal; the state is then unchanged.
     pub fn step(&mut self, event: Event) -> Result<(), Illegal>
         ensures ok { OnOk result (Step self.old event self.new) }
         ensures legal { OnOk result (refusal self.old event ≡ None) }
@@ -92,14 +106,14 @@ impl Core {
         Ok(())
     }
 
-    /// The least posted number, or the number of branches where none is posted.
+    /// Returns the least posted branch, or the number of branches if none is posted.
     pub fn least(&self) -> u32
         ensures { result ≡ self.now.least }
     {
         self.least
     }
 
-    /// The status of a branch.
+    /// Returns the status of `branch`.
     pub fn status(&self, branch: u32) -> Status
         requires { branch < length self.now.branches }
         ensures { Is self.now branch result }
@@ -107,8 +121,8 @@ impl Core {
         self.branches[branch as usize]
     }
 
-    /// The number that a worker has seen: the least posted one as of its last
-    /// look or post, or the number of branches.
+    /// Returns the number that `worker` has seen: the least posted branch at its last look or post,
+    /// or the number of branches if none was posted.
     pub fn seen(&self, worker: u32) -> u32
         requires { worker < length self.now.seen }
         ensures { Saw self.now worker result }
@@ -116,7 +130,8 @@ impl Core {
         self.workers[worker as usize].seen
     }
 
-    /// Whether the event is legal: asks its needs in the order of the reasons.
+    /// Checks that `event` is legal. The reasons against it are tested in the order of [`Illegal`],
+    /// so that the first one is returned.
     fn check(&self, event: Event) -> Result<(), Illegal>
         ensures needs { OnOk result (Needs self.now event) }
         ensures why { IfErr result (λ why. refusal self.now event ≡ Some why) }
@@ -156,7 +171,7 @@ impl Core {
         }
     }
 
-    /// The worker, where there is one and it has not ended.
+    /// Returns the state of worker `w`, if it exists and has not ended.
     fn active(&self, w: u32) -> Result<WorkerState, Illegal>
         ensures ok { IfOk result (λ k. IsWorker self.now w k × IsActive self.now w) }
         ensures why { IfErr result (λ why. refusal self.now (Event.Look w) ≡ Some why) }
@@ -170,7 +185,8 @@ impl Core {
         Ok(*worker)
     }
 
-    /// The worker and the branch's status, where there are both and the worker has not ended.
+    /// Returns the state of worker `w` and the status of branch `i`, if both exist and the worker
+    /// has not ended.
     fn active_at(&self, w: u32, i: u32) -> Result<(WorkerState, Status), Illegal>
         ensures ok { IfOk result
             (λ k. IsWorker self.now w k.0 × IsActive self.now w × Is self.now i k.1) }
@@ -188,7 +204,7 @@ impl Core {
         Ok((*worker, *status))
     }
 
-    /// The worker, where it may settle the branch.
+    /// Returns the state of worker `w`, if it holds branch `i` and so may settle it.
     fn holder(&self, w: u32, i: u32) -> Result<WorkerState, Illegal>
         ensures ok { IfOk result
             (λ k. IsWorker self.now w k × IsActive self.now w × Is self.now i (Held w)) }
@@ -201,7 +217,7 @@ impl Core {
         Ok(worker)
     }
 
-    /// Does what a legal event does.
+    /// Performs `event`, which must be legal.
     fn apply(&mut self, event: Event)
         requires { Needs self.old event }
         ensures { self.new ≡ after self.old event }
@@ -220,6 +236,7 @@ impl Core {
         }
     }
 
+    /// Makes worker `w` hold the free branch `i`.
     fn take(&mut self, w: u32, i: u32)
         requires { IsActive self.old w × HoldsNothing self.old w × Is self.old i Free }
         ensures { self.new ≡ after self.old (Event.Take w i) }
@@ -229,7 +246,8 @@ impl Core {
         worker.holds = Some(i);
     }
 
-    /// The branch is held no more.
+    /// Gives branch `i`, which worker `w` holds, the final `status`. The worker then holds no
+    /// branch.
     fn settle(&mut self, w: u32, i: u32, status: Status)
         requires { Is self.old i (Held w) × ((v : ℕ) → ¬ (status ≡ Held v)) }
         ensures { self.new ≡ record self.old { branches = slice_set self.old.branches i status } }
@@ -239,6 +257,7 @@ impl Core {
         worker.holds = None;
     }
 
+    /// Records that worker `w` has seen the number `n`.
     fn see(&mut self, w: u32, n: u32)
         requires { IsActive self.old w }
         ensures { self.new ≡ record self.old { seen = slice_set self.old.seen w n } }
@@ -247,6 +266,7 @@ impl Core {
         worker.seen = n;
     }
 
+    /// Records that worker `w` has ended.
     fn end(&mut self, w: u32)
         requires { IsActive self.old w }
         ensures { self.new ≡ after self.old (Event.End w) }

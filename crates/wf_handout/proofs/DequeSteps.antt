@@ -152,7 +152,7 @@ nearer d t x h =
     let l = length-append t (x ∷ []) in
     omega arith
 
--- what a pop tells of the owner's end, and a steal of the raider's
+-- what a pop tells of the owner's end, and a steal of the thief's
 pub gains : (r : Option ℕ) (p : Part) (before after : DequeId) (v w : Pile) → part before v.dealt v.taken ≡ p → after ≡ before
     → MatchOption r (w ≡ v) (λ i. Takes v (i ∷ []) w)
     → MatchOption r (part after w.dealt w.taken ≡ p) (λ i. (part after w.dealt w.taken ≡ grown p i) × IsFair (part after w.dealt w.taken))

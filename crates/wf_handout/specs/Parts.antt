@@ -39,8 +39,8 @@ IsDealt branches workers k dealt = (x : ℕ) → times x dealt ≡ dealt_to bran
 -- what was taken at the two ends of a deque, and what was left in it and
 -- joined the list, is what was dealt to it
 abbrev pub IsSettled : Part → Part → List ℕ → List ℕ → Type 0
-IsSettled own raid before after = (x : ℕ) → times x own.taken + times x raid.taken + times x after ≡ times x before + times x own.dealt
+IsSettled own pass before after = (x : ℕ) → times x own.taken + times x pass.taken + times x after ≡ times x before + times x own.dealt
 
 -- a branch that was dealt was taken at neither end
 abbrev pub HasLeft : Part → Part → Type 0
-HasLeft own raid = (x : ℕ) × (times x own.taken + times x raid.taken < times x own.dealt)
+HasLeft own pass = (x : ℕ) × (times x own.taken + times x pass.taken < times x own.dealt)

@@ -1,5 +1,6 @@
-//! One worker's deque of branches. Its owner pops at the front, and one other worker, its raider,
-//! steals there. What was popped, stolen and left is what was dealt, each once.
+//! The deque of one worker's branches. Its owner pops at the front, and one other worker, its
+//! stealer, steals there too. The branches that were popped, stolen or remain are those that were
+//! dealt, each once.
 
 ghost use Rattle.std.specs.Prelude.{◌≡◌, ◌+◌, ◌<◌, ◌≤◌, [], ◌++◌, None, IfOk, OnOk, OnErr};
 ghost use Rattle.crossbeam_deque.specs.Handles.{view as pass_view, worker_deque, stealer_deque, worker_view, worker_flavor, worker_index, worker_capacity, stealer_flavor};
@@ -12,15 +13,16 @@ use std::alloc::{AllocError, Global};
 use std::collections::LinkedList;
 use std::marker::Model;
 
-/// What a pass of the deque knows: how many of the two parts it has, what was dealt, and what it
-/// has taken. It stands in proofs alone: no value of it is made.
+/// The proof state of an end of a deque: how many of the deque's two parts it stands for, which
+/// branches were dealt, and which it has taken. It exists only in proofs; no value of it is made.
 pub struct Pile {
     pub parts: u8,
     pub dealt: LinkedList<u32>,
     pub taken: LinkedList<u32>,
 }
 
-/// The rule: what was dealt is what was taken and what is left, each once.
+/// The invariant of a deque: the branches that were dealt are those that were taken and those that
+/// remain, each once.
 pub struct Balanced;
 
 impl Protocol<u32, Pile> for Balanced {
@@ -31,7 +33,8 @@ impl Protocol<u32, Pile> for Balanced {
     ghost guest = { pile 0 [] [] };
 }
 
-/// The owner has one part, and the raider the other.
+/// The split of a deque into two parts, one for the owner and one for the stealer, and their
+/// joining.
 struct Roles;
 
 impl Split<Pile> for Roles {
@@ -46,12 +49,14 @@ impl Join<Pile> for Roles {
     ghost spent = { pile 0 [] [] };
 }
 
+/// The proof step of dealing a branch: it is added to those that were dealt.
 struct Dealt;
 
 impl Outcome<u32, Pile> for Dealt {
     ghost then = { λ v xs w. w ≡ pile v.parts (v.dealt ++ xs) v.taken };
 }
 
+/// The proof step of popping or stealing: the branch is added to those that were taken.
 struct Took;
 
 impl Outcome<u32, Pile> for Took {
@@ -62,9 +67,9 @@ impl Outcome<u32, Pile> for Took {
 
 type Deque = Worker<u32, Global, Pile, Balanced>;
 
-/// The end of a deque that its own worker pops.
+/// The end of a deque at which its own worker pops.
 ///
-/// Contracts see which deque it is, what was dealt to it, and what its owner has popped.
+/// Contracts see the identity of the deque, what was dealt to it, and what its owner has popped.
 #[derive(Drop)]
 pub struct Owner {
     deque: Deque,
@@ -79,15 +84,15 @@ impl Model for Owner {
     ghost invariant = { λ o. (worker_flavor o.deque ≡ 0) × ((worker_view o.deque).parts ≡ 1) };
 }
 
-/// The leave to steal from one deque.
+/// The right to steal from one deque.
 ///
-/// Contracts see which deque it is, what was dealt to it, and what was stolen.
+/// Contracts see the identity of the deque, what was dealt to it, and what was stolen.
 #[derive(Drop)]
-pub struct Thief {
+pub struct StealPass {
     pass: Pass<u32, Pile>,
 }
 
-impl Model for Thief {
+impl Model for StealPass {
     ghost Value = { Part };
 
     ghost view = { λ r.
@@ -97,9 +102,9 @@ impl Model for Thief {
         × ((pass_view r.pass).parts ≡ 1) };
 }
 
-/// The front of a deque, as other threads reach it.
+/// The front of a deque, at which another worker steals.
 ///
-/// Contracts see which deque it is.
+/// Contracts see the identity of the deque.
 #[derive(Drop)]
 pub struct StealingEnd {
     stealer: Stealer<u32, Global, Pile, Balanced>,
@@ -113,13 +118,15 @@ impl Model for StealingEnd {
     ghost invariant = { λ d. stealer_flavor d.stealer ≡ 0 };
 }
 
-/// The deque of one worker, with the branches whose remainder is its number, in their order.
+/// Creates the deque of worker `worker`, with the branches whose remainder modulo `workers` is
+/// `worker`, in ascending order. Returns its owner's end, its front for stealing, and the right to
+/// steal there.
 pub fn deal(
     alloc: Global,
     branches: u32,
     workers: u32,
     worker: u32,
-) -> Result<(Owner, StealingEnd, Thief), AllocError>
+) -> Result<(Owner, StealingEnd, StealPass), AllocError>
     requires { worker < workers }
     ensures dealt { IfOk result (λ d. IsDealt branches workers worker d.0.dealt) }
     ensures taken { IfOk result (λ d. d.0.taken ≡ []) }
@@ -128,10 +135,11 @@ pub fn deal(
     let mut deque = deal_to(alloc, branches, workers, worker)?;
     let stealer = deque.stealer()?;
     let pass = deque.another::<Roles>();
-    Ok((Owner { deque }, StealingEnd { stealer }, Thief { pass }))
+    Ok((Owner { deque }, StealingEnd { stealer }, StealPass { pass }))
 }
 
-/// It is made with room for all of its branches.
+/// Creates a deque with the branches below `branches` whose remainder modulo `workers` is `worker`,
+/// in ascending order.
 fn deal_to(alloc: Global, branches: u32, workers: u32, worker: u32) -> Result<Deque, AllocError>
     requires { worker < workers }
     ensures dealt { IfOk result (λ d. IsDealt branches workers worker (worker_view d).dealt) }
@@ -148,6 +156,7 @@ fn deal_to(alloc: Global, branches: u32, workers: u32, worker: u32) -> Result<De
     Ok(deque)
 }
 
+/// Appends a branch to the deque, which must have room for it.
 fn push(deque: &mut Deque, branch: u32)
     requires room { worker_index deque.old < worker_capacity deque.old }
     requires whole { (worker_view deque.old).parts ≡ 2 }
@@ -162,6 +171,7 @@ fn push(deque: &mut Deque, branch: u32)
     }
 }
 
+/// Pops the branch at the front of the deque.
 fn pop_front(deque: &mut Deque) -> Option<u32>
     requires { (0 < (worker_view deque.old).parts) × (worker_flavor deque.old ≡ 0) }
     ensures deque { worker_deque deque.new ≡ worker_deque deque.old }
@@ -172,7 +182,7 @@ fn pop_front(deque: &mut Deque) -> Option<u32>
 }
 
 impl Owner {
-    /// The next of its own branches.
+    /// Takes the next of the owner's branches, or returns `None` if the deque is empty.
     pub fn pop(&mut self) -> Option<u32>
         ensures { Gives result self.old self.new }
     {
@@ -181,23 +191,28 @@ impl Owner {
 }
 
 impl StealingEnd {
-    /// One try at the next branch of this deque.
-    pub fn steal(&self, raider: &mut Thief) -> Option<u32>
-        requires { raider.old.deque ≡ self.now }
-        ensures { Gives result raider.old raider.new }
+    /// Tries once to steal the branch at the front of the deque. Returns `None` if the deque is
+    /// empty, or another take got in between.
+    pub fn steal(&self, thief: &mut StealPass) -> Option<u32>
+        requires { thief.old.deque ≡ self.now }
+        ensures { Gives result thief.old thief.new }
     {
-        self.stealer.steal_as::<Took>(&mut raider.pass).success()
+        self.stealer.steal_as::<Took>(&mut thief.pass).success()
     }
 }
 
-/// Brings the two views of a deque together, and pops what is left in it.
-pub fn settle(left: &mut Vec<u32>, owner: Owner, raider: Thief) -> Result<(), AllocError>
-    requires { raider.deque ≡ owner.deque }
-    ensures whole { OnOk result (IsSettled owner raider left.old.items left.new.items) }
-    ensures short { OnErr result (HasLeft owner raider) }
+/// Joins the two ends of a deque, and appends to `left` the branches that remain in it.
+///
+/// # Errors
+///
+/// Returns `AllocError` if memory runs out; the remaining branches are then lost.
+pub fn settle(left: &mut Vec<u32>, owner: Owner, thief: StealPass) -> Result<(), AllocError>
+    requires { thief.deque ≡ owner.deque }
+    ensures whole { OnOk result (IsSettled owner thief left.old.items left.new.items) }
+    ensures short { OnErr result (HasLeft owner thief) }
 {
     let Owner { mut deque } = owner;
-    let Thief { pass } = raider;
+    let StealPass { pass } = thief;
     deque.absorb::<Roles>(pass);
     while let Some(branch) = pop_front(&mut deque) {
         left.push(branch)?;

@@ -15,8 +15,8 @@ use Rattle.std.proofs.lemmas.List.Folds.{list_any-append}
 use Rattle.std.proofs.lemmas.List.Sums.{sum_by-append, sum_by-cons}
 use Rattle.wf_model.specs.Lists.{has}
 use Rattle.wf_model.proofs.Lemmas.{or_assoc, equal_turned, and_turned, has-filter}
-use Rattle.wf_set.specs.Parts.{part_holds, part_values}
-use Rattle.wf_set.proofs.Lemmas.{has-part_values, part_holds-or, holds_nothing, one_bit}
+use Rattle.wf_base.specs.Set.Parts.{part_holds, part_values}
+use Rattle.wf_base.proofs.OfSet.Lemmas.{has-part_values, part_holds-or, holds_nothing, one_bit}
 use Rattle.wf_lane.specs.Words.{Words, is_live, joined_words, ors, meets}
 use Rattle.wf_lane.specs.Table.{IsOneHot, AreOneHot, value_of}
 use Rattle.wf_lane.specs.declared.column.Column.{Column}

@@ -14,8 +14,8 @@ use Rattle.std.proofs.lemmas.List.FromFn.{fill_by_all}
 use Rattle.std.proofs.lemmas.List.Elements.{All-head, All-tail}
 use Rattle.std.specs.Int.Bits.{or_zero_r}
 use Rattle.wf_model.specs.Lists.{has}
-use Rattle.wf_set.specs.Parts.{part_holds, part_values}
-use Rattle.wf_set.proofs.Lemmas.{has-part_values, has_large, part_holds-or}
+use Rattle.wf_base.specs.Set.Parts.{part_holds, part_values}
+use Rattle.wf_base.proofs.OfSet.Lemmas.{has-part_values, has_large, part_holds-or}
 use Rattle.wf_lane.specs.Words.{ors}
 use Rattle.wf_lane.specs.Table.{IsOneHot, value_of}
 use Rattle.wf_lane.specs.Rows.{AreMarked, ArePlaces, IsCut, IsWhole, block_limit, is_value, row_set, row_sets}

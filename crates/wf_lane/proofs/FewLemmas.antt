@@ -8,7 +8,7 @@ use Rattle.std.proofs.lemmas.List.{take_all, get_or-take, get_or-drop}
 use Rattle.std.proofs.lemmas.Simd.{ones-mask_l}
 use Rattle.wf_model.specs.Lists.{has}
 use Rattle.wf_model.proofs.Lemmas.{or_assoc, equal_turned}
-use Rattle.wf_set.specs.Parts.{part_values}
+use Rattle.wf_base.specs.Set.Parts.{part_values}
 use Rattle.wf_lane.specs.Words.{Words}
 use Rattle.wf_lane.specs.Rows.{AreLeft, is_among, is_met_early, is_one_of, is_value, row_set, row_sets}
 use Rattle.wf_lane.specs.Table.{value_of}

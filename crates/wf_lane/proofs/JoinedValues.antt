@@ -3,7 +3,7 @@ use Rattle.std.proofs.Common.{◌≡◌, ℕ, ◌<◌, ◌^◌, List, map, filte
 use Rattle.std.specs.Prelude.{count_by, slice_index}
 use Rattle.std.specs.List.{All}
 use Rattle.wf_model.specs.Lists.{has}
-use Rattle.wf_set.specs.Parts.{part_values}
+use Rattle.wf_base.specs.Set.Parts.{part_values}
 use Rattle.wf_lane.specs.Words.{Words, ors}
 use Rattle.wf_lane.specs.Table.{AreOneHot}
 use Rattle.wf_lane.specs.declared.column.Columns.{Columns}

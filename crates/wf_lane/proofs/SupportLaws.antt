@@ -6,7 +6,7 @@ use Rattle.std.proofs.lemmas.Bool.{cases_Bool}
 use Rattle.std.proofs.lemmas.List.Elements.{filter_agree}
 use Rattle.wf_model.specs.Lists.{has}
 use Rattle.wf_model.specs.Box.{is_supported}
-use Rattle.wf_set.specs.Sets.{values_in}
+use Rattle.wf_base.specs.Set.Sets.{values_in}
 use Rattle.wf_lane.specs.Table.{Table, HasSupported, sets_of}
 
 -- two answers that are yes together are the same

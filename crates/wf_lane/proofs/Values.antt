@@ -12,9 +12,9 @@ use Rattle.std.proofs.lemmas.List.Sums.{sum_by-cons}
 use Rattle.std.proofs.Math.Bool.{and-true}
 use Rattle.wf_model.specs.Lists.{has}
 use Rattle.wf_model.specs.Box.{is_supported, is_alive, has_at}
-use Rattle.wf_set.proofs.Lemmas.{has-part_values, has_large, part_holds-or, part_holds-pow, holds_nothing}
-use Rattle.wf_set.specs.Parts.{part_holds, part_values}
-use Rattle.wf_set.specs.Sets.{values_in}
+use Rattle.wf_base.proofs.OfSet.Lemmas.{has-part_values, has_large, part_holds-or, part_holds-pow, holds_nothing}
+use Rattle.wf_base.specs.Set.Parts.{part_holds, part_values}
+use Rattle.wf_base.specs.Set.Sets.{values_in}
 use Rattle.wf_lane.specs.Words.{Words, is_live, joined_words, meets}
 use Rattle.wf_lane.specs.Table.{AreFirstParts, AreOneHot, IsFirstPart, IsOneHot, four_values, opened, row_of, sets_of, value_of}
 use Rattle.wf_model.proofs.Lemmas.{has-filter, has_at-take}

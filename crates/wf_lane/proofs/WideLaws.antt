@@ -9,7 +9,7 @@ use Rattle.std.proofs.lemmas.List.Sums.{sum_by-cons}
 use Rattle.wf_model.specs.Lists.{has}
 use Rattle.wf_model.specs.Task.{Tuple}
 use Rattle.wf_model.specs.Box.{has_at, is_alive, is_supported}
-use Rattle.wf_set.specs.Sets.{values_in}
+use Rattle.wf_base.specs.Set.Sets.{values_in}
 use Rattle.wf_lane.specs.Table.{AreNarrow, HasSupported, Table, sets_of}
 use Rattle.wf_lane.specs.Wide.{AreKept, AreSupported, HaveMore, is_below, lives}
 use Rattle.wf_lane.proofs.RevisedRows.{both_ways, nothing_in}

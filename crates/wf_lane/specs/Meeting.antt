@@ -1,7 +1,7 @@
 -- Sets that are met with others.
 use Rattle.std.specs.Prelude.{◌≡◌, ℕ, List, [], filter, slice_index_or}
 use Rattle.wf_model.specs.Lists.{has}
-use Rattle.wf_set.specs.Sets.{values_in}
+use Rattle.wf_base.specs.Set.Sets.{values_in}
 
 -- the values at this position
 abbrev pub values_at : ℕ → List (List ℕ) → List ℕ

@@ -4,7 +4,7 @@ use Rattle.std.specs.List.{range_with_len}
 use Rattle.std.specs.Simd.Lanes.{chunk, mask_l, zip2}
 use Rattle.wf_model.specs.Lists.{has}
 use Rattle.wf_model.specs.Task.{Tuple}
-use Rattle.wf_set.specs.Parts.{part_limit, part_values}
+use Rattle.wf_base.specs.Set.Parts.{part_limit, part_values}
 use Rattle.wf_lane.specs.Words.{Words, is_live, joined_words, ors, rows_of}
 use Rattle.wf_lane.specs.Table.{IsKept, Table, table_of, value_of, word_at}
 use Rattle.wf_lane.specs.declared.column.Column.{Column}

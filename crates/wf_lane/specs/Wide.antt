@@ -4,8 +4,8 @@ use Rattle.std.specs.List.{All, list_any}
 use Rattle.wf_model.specs.Lists.{has}
 use Rattle.wf_model.specs.Task.{Tuple}
 use Rattle.wf_model.specs.Box.{has_at, is_alive}
-use Rattle.wf_set.specs.Parts.{part_limit}
-use Rattle.wf_set.specs.Sets.{values_in}
+use Rattle.wf_base.specs.Set.Parts.{part_limit}
+use Rattle.wf_base.specs.Set.Sets.{values_in}
 use Rattle.wf_lane.specs.Table.{sets_of}
 
 -- the value is one of those that a part may have

@@ -1,26 +1,26 @@
-//! Tables whose rows are cut into blocks: 512 rows a step.
+//! The kernel for tables that are cut into blocks, of 512 rows each: it takes a block a step.
 
 ghost use Rattle.std.specs.Prelude.{◌≡◌, ◌<◌, ◌≤◌, ◌*◌, ◌^◌, ◌==◌, true, not, length, cond, filter, count_ones, sum_by};
 ghost use Rattle.std.specs.List.{All};
 ghost use Rattle.wf_model.specs.Lists.{has};
-ghost use Rattle.wf_set.specs.Parts.{part_limit, part_values};
+ghost use Rattle.wf_base.specs.Set.Parts.{part_limit, part_values};
 ghost use Rattle.wf_lane.specs.Words.{ors};
 ghost use Rattle.wf_lane.specs.Table.{AreOneHot};
 ghost use Rattle.wf_lane.specs.Rows.{AreAllLeft, AreCut, AreJoined, AreLeft, IsCut, IsInBlocks, IsWanted, OccurIn, OccurInAll, block_rows, block_words, is_among, is_met, is_one_of, is_value, row_sets, rows_in};
 
 use crate::column::{BLOCK_WORDS, Column, Columns};
-use crate::lanes::PartSupport;
+use crate::lanes::Support64;
 use std::simd::prelude::*;
-use wf_set::part::{Part, difference, meet, split_first, without};
+use wf_base::set::set64::{Set64, difference, intersection, split_first, without};
 
-/// Whether some lane is not 0.
+/// Returns whether some lane of `rows` is not 0.
 fn has_some(rows: u64x8) -> bool
     ensures { result ≡ not (ors rows == 0) }
 {
     rows.reduce_or() != 0
 }
 
-/// How many rows there are in a block's set.
+/// Returns the number of rows in `rows`, a set of rows of one block.
 fn count_rows(rows: u64x8) -> u32
     ensures { result ≡ sum_by count_ones rows }
 {
@@ -35,8 +35,8 @@ fn count_rows(rows: u64x8) -> u32
         + h.count_ones()
 }
 
-/// The set, without the value where it was met.
-pub(crate) fn without_met(set: Part, value: u8, is_met: bool) -> Part
+/// Returns `set` without `value` if `is_met` is true, or else unchanged.
+pub(crate) fn without_met(set: Set64, value: u8, is_met: bool) -> Set64
     requires { value < part_limit }
     ensures { part_values result
         ≡ cond is_met (filter (λ v. not (v == value)) (part_values set)) (part_values set) }
@@ -45,8 +45,8 @@ pub(crate) fn without_met(set: Part, value: u8, is_met: bool) -> Part
 }
 
 impl Column {
-    /// The rows of a block that have a value. The block's rows are those of
-    /// eight words from start on.
+    /// Returns the rows of a block that have `value`, which must occur. The block's rows are those
+    /// of the eight words from `start` on.
     fn rows_with(&self, value: u8, start: usize) -> u64x8
         requires cut { IsCut self.now }
         requires value { has (part_values self.now.values) value ≡ true }
@@ -57,8 +57,9 @@ impl Column {
         u64x8::from_slice(&self.sets[self.starts[value as usize] + start..])
     }
 
-    /// The rows of a block that have one of these values.
-    fn rows_among(&self, values: Part, start: usize) -> u64x8
+    /// Returns the rows of a block that have one of `values`. The block's rows are those of the
+    /// eight words from `start` on.
+    fn rows_among(&self, values: Set64, start: usize) -> u64x8
         requires cut { IsCut self.now }
         requires values { OccurIn self.now values }
         requires block { IsInBlocks self.now start }
@@ -73,8 +74,9 @@ impl Column {
         joined
     }
 
-    /// The values that none of these rows of a block has.
-    fn unmet(&self, values: Part, live: u64x8, start: usize) -> Part
+    /// Returns those of `values` that none of the rows `live` of a block has. The block's rows are
+    /// those of the eight words from `start` on.
+    fn unsupported(&self, values: Set64, live: u64x8, start: usize) -> Set64
         requires cut { IsCut self.now }
         requires values { OccurIn self.now values }
         requires block { IsInBlocks self.now start }
@@ -90,18 +92,19 @@ impl Column {
         unmet
     }
 
-    /// The candidates that occur.
-    pub(crate) fn wanted(&self, candidates: Part) -> Part
+    /// Returns the candidates that occur in some row.
+    pub(crate) fn wanted(&self, candidates: Set64) -> Set64
         ensures wanted { IsWanted self.now result candidates }
         ensures occur { OccurIn self.now result }
     {
-        meet(candidates, self.values)
+        intersection(candidates, self.values)
     }
 }
 
 impl Columns {
-    /// The rows of a block whose values are all wanted.
-    fn live_rows(&self, wanted: [Part; 4], start: usize) -> u64x8
+    /// Returns the rows of a block whose value at each place is in `wanted` there. The block's rows
+    /// are those of the eight words from `start` on.
+    fn live_rows(&self, wanted: [Set64; 4], start: usize) -> u64x8
         requires cut { AreCut self.now }
         requires wanted { OccurInAll self.now wanted }
         requires block { IsInBlocks self.now.first start }
@@ -113,8 +116,9 @@ impl Columns {
             & self.fourth.rows_among(wanted[3], start)
     }
 
-    /// The values of each place that none of these rows of a block has there.
-    fn unmet(&self, values: [Part; 4], live: u64x8, start: usize) -> [Part; 4]
+    /// Returns for each place those of `values` that none of the rows `live` of a block has there.
+    /// The block's rows are those of the eight words from `start` on.
+    fn unsupported(&self, values: [Set64; 4], live: u64x8, start: usize) -> [Set64; 4]
         requires cut { AreCut self.now }
         requires values { OccurInAll self.now values }
         requires block { IsInBlocks self.now.first start }
@@ -124,15 +128,16 @@ impl Columns {
             return values;
         }
         [
-            self.first.unmet(values[0], live, start),
-            self.second.unmet(values[1], live, start),
-            self.third.unmet(values[2], live, start),
-            self.fourth.unmet(values[3], live, start),
+            self.first.unsupported(values[0], live, start),
+            self.second.unsupported(values[1], live, start),
+            self.third.unsupported(values[2], live, start),
+            self.fourth.unsupported(values[3], live, start),
         ]
     }
 
-    /// The words of all rows that are alive, joined by column, and how many rows these are.
-    pub(crate) fn revise_blocks(&self, sets: [Part; 4]) -> PartSupport
+    /// Revises the table block by block: returns the values that some live row has at each place,
+    /// and the number of live rows. A row is live if its value at each place is in `sets`.
+    pub(crate) fn revise_blocks(&self, sets: [Set64; 4]) -> Support64
         requires cut { AreCut self.now }
         requires all { length self.now.first.words.items ≤ block_rows * self.now.first.blocks }
         requires few { length self.now.first.words.items < 2 ^ 32 }
@@ -150,7 +155,7 @@ impl Columns {
         for block in 0..self.first.blocks {
             let start = BLOCK_WORDS * block;
             let live = self.live_rows(wanted, start);
-            unmet = self.unmet(unmet, live, start);
+            unmet = self.unsupported(unmet, live, start);
             alive += count_rows(live);
         }
         let masks = [
@@ -159,6 +164,6 @@ impl Columns {
             difference(wanted[2], unmet[2]),
             difference(wanted[3], unmet[3]),
         ];
-        PartSupport { masks, alive }
+        Support64 { masks, alive }
     }
 }

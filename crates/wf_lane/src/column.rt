@@ -1,42 +1,44 @@
-//! The values of a table's rows at one place: a word a row, and of a large
-//! table also the set of rows of each value.
+//! One place of a table: the value of each row as a word, and in a large table also the set of rows
+//! of each value.
 
 ghost use Rattle.std.specs.Prelude.{◌≡◌, ◌<◌, ◌≤◌, ◌+◌, ◌*◌, cond, length, IfOk};
 ghost use Rattle.std.specs.List.{All};
-ghost use Rattle.wf_set.specs.Parts.{part_limit};
+ghost use Rattle.wf_base.specs.Set.Parts.{part_limit};
 ghost use Rattle.wf_lane.specs.Words.{ors};
 ghost use Rattle.wf_lane.specs.Table.{IsOneHot};
 ghost use Rattle.wf_lane.specs.Rows.{AreMarked, ArePlaces, IsCut, IsWhole, block_limit, block_rows, block_words};
 
 use std::alloc::{AllocError, Global};
-use wf_set::part::{Part, holds};
+use wf_base::set::set64::{Set64, contains};
 
-/// How many words the rows of a block have: a bit a row, so that a block has 512 rows.
+/// Number of words in a set of rows of one block. With a bit for each row, a block has 512 rows.
 pub(crate) const BLOCK_WORDS: usize = 8;
 
-/// How many values there are: a word has a bit for each.
+/// Number of possible values: a word has a bit for each.
 const VALUES: u8 = 64;
 
-/// The values of rows at one place.
+/// The values of the rows of a table at one place.
 ///
-/// Where the rows are cut into blocks, each value that occurs has the set of
-/// the rows that have it: bit i of its word k stands for row 64 * k + i. A
-/// set has the words of all blocks, and no row past the last one.
+/// If the rows are cut into blocks, each value that occurs has the set of the rows that have it:
+/// bit i of its word k stands for row 64 * k + i. A set has the words of all blocks, and no bit
+/// past the last row.
 #[derive(Drop)]
 pub(crate) struct Column {
-    /// Each row's value as a word of one bit.
+    /// The value of each row, as a word with one bit set.
     pub(crate) words: Vec<u64>,
     /// The values that occur.
-    pub(crate) values: Part,
-    /// How many blocks there are, and 0 where the rows are not cut.
+    pub(crate) values: Set64,
+    /// Number of blocks, or 0 if the rows are not cut into blocks.
     pub(crate) blocks: usize,
-    /// Where the set of each value begins.
+    /// Index in `sets` at which the set of each value begins. Empty if the rows are not cut into
+    /// blocks.
     pub(crate) starts: Vec<usize>,
-    /// The sets of rows, one after the other.
+    /// The sets of rows of all values, one after the other. Empty if the rows are not cut into
+    /// blocks.
     pub(crate) sets: Vec<u64>,
 }
 
-/// The columns of a table, a place each.
+/// The columns of a table, one for each place.
 #[derive(Drop)]
 pub(crate) struct Columns {
     pub(crate) first: Column,
@@ -45,7 +47,7 @@ pub(crate) struct Columns {
     pub(crate) fourth: Column,
 }
 
-/// All words joined.
+/// Returns the union of all `words`.
 fn join_all(words: &[u64]) -> u64
     ensures { result ≡ ors words.now }
 {
@@ -56,18 +58,19 @@ fn join_all(words: &[u64]) -> u64
     joined
 }
 
-/// Where the sets of the values that occur lie, one after the other.
+/// The layout of a column's row sets, which lie one after the other.
 #[derive(Drop)]
 struct Places {
-    // how many words a set has
+    // number of words of a set
     words: usize,
-    // where the set of each value begins
+    // index at which the set of each value begins
     starts: Vec<usize>,
-    // where the last one ends
+    // index at which the last set ends
     end: usize,
 }
 
-/// Where a set ends that begins here, which has no words where its value does not occur.
+/// Returns the index at which a set ends that begins at `start`. A value that doesn't occur has a
+/// set of no words.
 fn end_of(start: usize, words: usize, occurs: bool) -> usize
     requires { start + words ≤ part_limit * (block_words * block_limit) }
     ensures { result ≡ start + cond occurs words 0 }
@@ -76,8 +79,8 @@ fn end_of(start: usize, words: usize, occurs: bool) -> usize
 }
 
 impl Places {
-    /// The places of the sets of these values, of so many words each.
-    fn of(alloc: Global, values: Part, words: usize) -> Result<Places, AllocError>
+    /// Computes the layout of the row sets of `values`, with `words` words for each.
+    fn of(alloc: Global, values: Set64, words: usize) -> Result<Places, AllocError>
         requires { words ≤ block_words * block_limit }
         ensures words { IfOk result (λ places. places.words ≡ words) }
         ensures apart { IfOk result (ArePlaces values) }
@@ -86,12 +89,12 @@ impl Places {
         let mut end: usize = 0;
         'values: for value in 0..VALUES {
             starts.push_reserved(end);
-            end = end_of(end, words, holds(values, value));
+            end = end_of(end, words, contains(values, value));
         }
         Ok(Places { words, starts, end })
     }
 
-    /// The set of the rows of each value that occurs.
+    /// Builds the row sets of the values that occur, where `words` has the value of each row.
     fn sets_of(&self, alloc: Global, words: &[u64]) -> Result<Vec<u64>, AllocError>
         requires one_hot { All IsOneHot words.now }
         requires apart { ArePlaces (ors words.now) self.now }
@@ -110,7 +113,7 @@ impl Places {
 }
 
 impl Column {
-    /// These rows, uncut.
+    /// Creates a column of these rows that is not cut into blocks.
     pub(crate) fn whole(alloc: Global, words: Vec<u64>) -> Column
         ensures words { result.words.items ≡ words.items }
         ensures whole { IsWhole result }
@@ -125,14 +128,14 @@ impl Column {
         }
     }
 
-    /// How many values occur.
+    /// Returns the number of values that occur.
     pub(crate) fn count_values(&self) -> usize
         ensures { result ≤ part_limit }
     {
         self.values.count_ones() as usize
     }
 
-    /// Cuts the rows of the column into so many blocks.
+    /// Cuts the rows of the column into `blocks` blocks. Does nothing if `blocks` is 0.
     pub(crate) fn cut(self, alloc: Global, blocks: usize) -> Result<Column, AllocError>
         requires whole { IsWhole self }
         requires one_hot { All IsOneHot self.words.items }

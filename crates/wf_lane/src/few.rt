@@ -1,22 +1,23 @@
-//! Tables of at most 64 rows that are cut into sets: a set has one word that is not 0, its first.
+//! The kernel for tables that have at most 64 rows and are cut into blocks: only the first word of
+//! each row set is used.
 
 ghost use Rattle.std.specs.Prelude.{◌≡◌, ◌<◌, ◌≤◌, true, length};
 ghost use Rattle.std.specs.List.{All};
 ghost use Rattle.wf_model.specs.Lists.{has};
-ghost use Rattle.wf_set.specs.Parts.{part_limit, part_values};
+ghost use Rattle.wf_base.specs.Set.Parts.{part_limit, part_values};
 ghost use Rattle.wf_lane.specs.Table.{AreOneHot};
 ghost use Rattle.wf_lane.specs.Rows.{AreCut, AreFewLeft, AreJoined, AreLeft, AreWanted, IsCut, OccurIn, OccurInAll, is_among, is_met_early, is_one_of, is_value, row_set, rows_in, word_rows};
 
 use crate::blocks::without_met;
 use crate::column::{Column, Columns};
-use crate::lanes::PartSupport;
-use wf_set::part::{Part, difference, split_first};
+use crate::lanes::Support64;
+use wf_base::set::set64::{Set64, difference, split_first};
 
-/// How many rows the sets have that are one word: a bit a row.
+/// Number of rows that one word of a row set covers.
 pub(crate) const WORD_ROWS: usize = 64;
 
 impl Column {
-    /// The rows that have a value, of the first 64.
+    /// Returns those of the first 64 rows that have `value`, which must occur.
     fn early_with(&self, value: u8) -> u64
         requires cut { IsCut self.now }
         requires blocks { 0 < self.now.blocks }
@@ -27,8 +28,8 @@ impl Column {
         self.sets[self.starts[value as usize]]
     }
 
-    /// The rows that have one of these values, of the first 64.
-    fn early_among(&self, values: Part) -> u64
+    /// Returns those of the first 64 rows that have one of `values`.
+    fn early_among(&self, values: Set64) -> u64
         requires cut { IsCut self.now }
         requires blocks { 0 < self.now.blocks }
         requires values { OccurIn self.now values }
@@ -43,8 +44,9 @@ impl Column {
         joined
     }
 
-    /// The values that none of these rows has, of the first 64.
-    fn unmet_early(&self, values: Part, live: u64) -> Part
+    /// Returns those of `values` that none of the rows `live` has, a set of some of the first 64
+    /// rows.
+    fn unmet_early(&self, values: Set64, live: u64) -> Set64
         requires cut { IsCut self.now }
         requires blocks { 0 < self.now.blocks }
         requires values { OccurIn self.now values }
@@ -62,8 +64,8 @@ impl Column {
 }
 
 impl Columns {
-    /// The candidates of each place that occur there.
-    fn wanted(&self, sets: [Part; 4]) -> [Part; 4]
+    /// Returns for each place the candidates that occur there in some row.
+    fn wanted(&self, sets: [Set64; 4]) -> [Set64; 4]
         ensures wanted { AreWanted self.now result sets }
         ensures occur { OccurInAll self.now result }
     {
@@ -75,8 +77,8 @@ impl Columns {
         ]
     }
 
-    /// The rows whose values are all wanted, of the first 64.
-    fn live_early(&self, wanted: [Part; 4]) -> u64
+    /// Returns those of the first 64 rows whose value at each place is in `wanted` there.
+    fn live_early(&self, wanted: [Set64; 4]) -> u64
         requires cut { AreCut self.now }
         requires blocks { 0 < self.now.first.blocks }
         requires wanted { OccurInAll self.now wanted }
@@ -88,8 +90,9 @@ impl Columns {
             & self.fourth.early_among(wanted[3])
     }
 
-    /// The values of each place that none of these rows has there, of the first 64.
-    fn all_unmet_early(&self, values: [Part; 4], live: u64) -> [Part; 4]
+    /// Returns for each place those of `values` that none of the rows `live` has there, a set of
+    /// some of the first 64 rows.
+    fn all_unmet_early(&self, values: [Set64; 4], live: u64) -> [Set64; 4]
         requires cut { AreCut self.now }
         requires blocks { 0 < self.now.first.blocks }
         requires values { OccurInAll self.now values }
@@ -103,8 +106,9 @@ impl Columns {
         ]
     }
 
-    /// The words of all rows that are alive, joined by column, and how many rows these are.
-    pub(crate) fn revise_few(&self, sets: [Part; 4]) -> PartSupport
+    /// Revises a table of at most 64 rows: returns the values that some live row has at each place,
+    /// and the number of live rows. A row is live if its value at each place is in `sets`.
+    pub(crate) fn revise_few(&self, sets: [Set64; 4]) -> Support64
         requires cut { AreCut self.now }
         requires blocks { 0 < self.now.first.blocks }
         requires few { length self.now.first.words.items ≤ word_rows }
@@ -121,6 +125,6 @@ impl Columns {
             difference(wanted[3], unmet[3]),
         ];
         let alive = live.count_ones();
-        PartSupport { masks, alive }
+        Support64 { masks, alive }
     }
 }

@@ -1,51 +1,54 @@
-//! The tuples of a rule, in the form that suits how many there are and how large their values.
+//! The table of a rule's tuples, in the form that suits their number and their largest value.
 
 ghost use Rattle.std.specs.Prelude.{◌≡◌, ℕ, ◌<◌, ◌≤◌, ◌^◌, ◌*◌, [], All, IfOk, length, map, slice_index, slice_index_or, count_by};
 ghost use Rattle.wf_model.specs.Box.{is_alive};
-ghost use Rattle.wf_set.specs.Parts.{part_limit, part_values};
-ghost use Rattle.wf_set.specs.Sets.{values_in};
+ghost use Rattle.wf_base.specs.Set.Parts.{part_limit, part_values};
+ghost use Rattle.wf_base.specs.Set.Sets.{values_in};
 ghost use Rattle.wf_lane.specs.Table.{AreFirstParts, AreNarrow, AreOneHot, HasSupported, IsOneHot, closed, opened, sets_of, word_at};
 ghost use Rattle.wf_lane.specs.Rows.{AreCut, AreJoined, HasColumns, IsStored, IsWhole, block_limit, block_rows, rows_in, table_in};
 
 use crate::column::{BLOCK_WORDS, Column, Columns};
 use crate::few::WORD_ROWS;
-use crate::lanes::{PartSupport, revise_columns, word_or};
+use crate::lanes::{Support64, revise_columns, word_or};
 use crate::wide::{is_narrow, revise_rows};
 use std::alloc::{AllocError, Global};
 use std::marker::Model;
 use std::sync::Arc;
-use wf_set::part::Part;
-use wf_set::{Mask, first_part, of_part};
+use wf_base::set::set64::Set64;
+use wf_base::set::{Mask, from_set64, low_set64};
 use wf_task::Row;
 
-/// A block takes for each value of each place about as long as so many rows take eight a step.
+/// Number of rows that the kernel for uncut tables takes in about the time that the kernel for
+/// blocks needs for one value of one place in one block.
 const ROWS_OF_A_VALUE: usize = 2;
 
-/// What is left of the candidates at each place, and how many rows are alive.
+/// The result of the kernel: the supported values, and the number of live rows.
 #[derive(Clone, Copy, Debug, PartialEq, Eq)]
 pub struct Support {
-    /// The supported values at each place.
+    /// The supported values at each place: those that some live row has there. Past the width of
+    /// the table the sets are empty.
     pub masks: [Mask; 4],
-    /// How many rows have each of their values among the candidates of its place.
+    /// Number of live rows: rows whose value at each place is a candidate there.
     pub alive: u32,
 }
 
-/// What a table keeps of its rows.
+/// The two forms in which a table stores its rows.
 #[derive(Drop)]
 enum Kind {
-    // Each value is below 64. Past the width all rows have the value 0.
+    // All values are below 64. A row that is narrower than four has the value 0 at the remaining
+    // places.
     Narrow(Columns),
-    // Some value is not: the rows as they are.
+    // Some value is 64 or more: the rows, unchanged.
     Wide(Vec<Row>),
 }
 
-/// Rows of values of one width, from one to four.
+/// A table of rows of the same width, which is from 1 to 4.
 ///
 /// A clause sees it as the width and the list of the rows.
 #[derive(Drop)]
 pub struct TupleTable {
     width: u8,
-    // what is kept of the rows, which several tables may share
+    // the rows, which several tables may share
     kind: Arc<Kind, Global>,
 }
 
@@ -60,8 +63,9 @@ impl Model for TupleTable {
     ghost invariant = { λ t. IsKind t.width t.kind.value };
 }
 
-/// The word of the row's value at the place; that of 0 past its end. The width is known to the
-/// caller, so that a loop over rows tests it once.
+/// Returns the value of `row` at `place` as a word with one bit set, or that of 0 past its end.
+/// `width` is the length of the row; the caller passes it so that a loop over rows tests it only
+/// once.
 fn word_at(row: &Row, width: u8, place: u8) -> u64
     requires long { length row.now ≡ width }
     requires narrow { All (λ x. x < part_limit) row.now }
@@ -74,8 +78,8 @@ fn word_at(row: &Row, width: u8, place: u8) -> u64
     }
 }
 
-/// In how many blocks so many rows are cut, with so many values in all places together: none where
-/// going through the rows is faster.
+/// Returns the number of blocks into which `rows` rows should be cut, or 0 if the kernel of eight
+/// rows a step is faster. `values` is the number of values that occur, summed over the places.
 fn blocks_of(rows: usize, values: usize) -> usize
     requires rows { rows < 2 ^ 32 }
     requires values { values ≤ 256 }
@@ -90,7 +94,7 @@ fn blocks_of(rows: usize, values: usize) -> usize
     }
 }
 
-/// The words of the rows at the place, which all have this width.
+/// Returns the value of each row at `place` as a word. All rows have the width `width`.
 fn words_at(alloc: Global, rows: &[Row], width: u8, place: u8) -> Result<Vec<u64>, AllocError>
     requires long { All (λ row. length row ≡ width) rows.now }
     requires narrow { AreNarrow rows.now }
@@ -104,7 +108,7 @@ fn words_at(alloc: Global, rows: &[Row], width: u8, place: u8) -> Result<Vec<u64
     Ok(words)
 }
 
-/// The rows at the place, uncut.
+/// Creates the column of `place`, not cut into blocks. All rows have the width `width`.
 fn column(alloc: Global, rows: &[Row], width: u8, place: u8) -> Result<Column, AllocError>
     requires long { All (λ row. length row ≡ width) rows.now }
     requires narrow { AreNarrow rows.now }
@@ -116,33 +120,34 @@ fn column(alloc: Global, rows: &[Row], width: u8, place: u8) -> Result<Column, A
     Ok(Column::whole(alloc, words))
 }
 
-/// The values below 64 of each set. No row has another one.
-fn first_parts(sets: [Mask; 4]) -> [Part; 4]
+/// Returns the values below 64 of each set. This loses nothing, as no row of a narrow table has
+/// another value.
+fn first_parts(sets: [Mask; 4]) -> [Set64; 4]
     ensures { AreFirstParts result sets }
 {
     [
-        first_part(sets[0]),
-        first_part(sets[1]),
-        first_part(sets[2]),
-        first_part(sets[3]),
+        low_set64(sets[0]),
+        low_set64(sets[1]),
+        low_set64(sets[2]),
+        low_set64(sets[3]),
     ]
 }
 
-/// The sets of the values of each part.
-fn of_parts(parts: [Part; 4]) -> [Mask; 4]
+/// Converts sets of values below 64 to sets of four words each.
+fn of_parts(parts: [Set64; 4]) -> [Mask; 4]
     ensures { (place : ℕ) → values_in (slice_index_or result place [])
         ≡ part_values (slice_index parts place) }
 {
     [
-        of_part(parts[0]),
-        of_part(parts[1]),
-        of_part(parts[2]),
-        of_part(parts[3]),
+        from_set64(parts[0]),
+        from_set64(parts[1]),
+        from_set64(parts[2]),
+        from_set64(parts[3]),
     ]
 }
 
-/// The sets below the width, and past it the set of all values.
-fn open_past(width: u8, sets: [Part; 4]) -> [Part; 4]
+/// Replaces the sets from place `width` on by the set of all values, so that they restrict no row.
+fn open_past(width: u8, sets: [Set64; 4]) -> [Set64; 4]
     ensures { result ≡ opened width sets }
 {
     [
@@ -153,8 +158,8 @@ fn open_past(width: u8, sets: [Part; 4]) -> [Part; 4]
     ]
 }
 
-/// The masks below the width, and past it 0.
-fn clear_past(width: u8, masks: [Part; 4]) -> [Part; 4]
+/// Replaces the sets from place `width` on by the empty set.
+fn clear_past(width: u8, masks: [Set64; 4]) -> [Set64; 4]
     ensures { result ≡ closed width masks }
 {
     [
@@ -165,8 +170,9 @@ fn clear_past(width: u8, masks: [Part; 4]) -> [Part; 4]
     ]
 }
 
-/// The words of all rows that are alive, joined by column, and how many rows these are.
-fn support_in(columns: &Columns, sets: [Part; 4]) -> PartSupport
+/// Revises the columns with the kernel for their form: returns the values that some live row has at
+/// each place, and the number of live rows.
+fn support_in(columns: &Columns, sets: [Set64; 4]) -> Support64
     requires cut { AreCut columns.now }
     requires all { 0 < columns.now.first.blocks
         → length columns.now.first.words.items ≤ block_rows * columns.now.first.blocks }
@@ -189,7 +195,7 @@ fn support_in(columns: &Columns, sets: [Part; 4]) -> PartSupport
     columns.revise_few(sets)
 }
 
-/// The columns of these rows, which all have this width.
+/// Builds the columns of `rows`, which all have the width `width`.
 fn columns_of(alloc: Global, rows: &[Row], width: u8) -> Result<Columns, AllocError>
     requires few { length rows.now < 2 ^ 32 }
     requires long { All (λ row. length row ≡ width) rows.now }
@@ -213,7 +219,8 @@ fn columns_of(alloc: Global, rows: &[Row], width: u8) -> Result<Columns, AllocEr
     })
 }
 
-/// What the columns support of these candidates, and how many of their rows are alive.
+/// Returns what the columns of a table of width `width` support of `candidates`, and the number of
+/// live rows.
 fn support_of(columns: &Columns, width: u8, candidates: [Mask; 4]) -> Support
     requires { IsStored width columns.now }
     ensures supported { HasSupported result.masks (table_in width columns.now) candidates }
@@ -231,7 +238,12 @@ fn support_of(columns: &Columns, width: u8, candidates: [Mask; 4]) -> Support
 }
 
 impl TupleTable {
-    /// The table of these rows.
+    /// Builds the table of `rows`, which all have the width `width`, from 1 to 4. There must be
+    /// fewer than 2^32 rows.
+    ///
+    /// # Errors
+    ///
+    /// Returns `AllocError` if memory runs out.
     pub fn build(alloc: Global, rows: &[Row], width: u8) -> Result<TupleTable, AllocError>
         requires some { 1 ≤ width }
         requires narrow { width ≤ 4 }
@@ -250,9 +262,11 @@ impl TupleTable {
         })
     }
 
-    /// Shares the table: another handle on its rows, which are not copied.
+    /// Returns another handle on the same rows, which are not copied.
     ///
-    /// Refused where there are too many who share them.
+    /// # Errors
+    ///
+    /// Returns `AllocError` if too many handles share the rows.
     pub fn share(&self) -> Result<TupleTable, AllocError>
         ensures { IfOk result (λ table. table ≡ self.now) }
     {
@@ -262,9 +276,9 @@ impl TupleTable {
         })
     }
 
-    /// The values that some row supports at each place, of the rows whose
-    /// values all lie in the candidates, a set for each place, and how many
-    /// such rows there are. Candidates past the width are ignored.
+    /// Returns the supported values at each place, and the number of live rows. A row is live if
+    /// its value at each place is a candidate there, and a value is supported at a place if some
+    /// live row has it there. Candidates past the width of the table are ignored.
     pub fn revise(&self, candidates: [Mask; 4]) -> Support
         ensures supported { HasSupported result.masks self.now candidates }
         ensures rest { (place : ℕ) → self.now.width ≤ place

@@ -1,5 +1,6 @@
-//! Laws of least trees: that they lead to the least solution, that the canonical search writes one
-//! where it finds a map, and that a checker finds no fault exactly in their lines.
+//! Laws of least trees. A least tree of a box leads to a solution and refutes every smaller value
+//! on the way. The canonical search writes the lines of such a tree if it finds a map, and a
+//! checker accepts exactly the lines of such trees.
 
 ghost use Rattle.wf_model.specs.Laws.LeastTrees.{LeastTreeHasTheLeastSolution};
 ghost use Rattle.wf_model.specs.Laws.LeastTrees.{LeastTreeLeadsToTheLeastMap};
@@ -7,28 +8,32 @@ ghost use Rattle.wf_model.specs.Laws.LeastTrees.{CanonicalLinesLeadToTheMap};
 ghost use Rattle.wf_model.specs.Laws.LeastTrees.{AcceptedLeastLinesLeadToTheMap};
 ghost use Rattle.wf_model.specs.Laws.LeastTrees.{LinesOfALeastTreeAreAccepted};
 
-/// A solution to which a tree leads is the least one in the tree's box, where candidates ascend.
+/// States that the solution to which a least tree leads is the least solution in the tree's box, if
+/// the box lists the candidates of each point in ascending order.
 pub fn a_least_tree_has_the_least_solution()
     ensures { LeastTreeHasTheLeastSolution }
 {}
 
-/// A solution of a task's problem to which a tree leads from the root is, by the numbers of the
-/// points, the least of all decision maps.
+/// States that, if a least tree leads from the root box of a task's problem to a solution, then
+/// this solution is the least of all decision maps, once it is read as a function on the views.
 pub fn a_least_tree_leads_to_the_least_map()
     ensures { LeastTreeLeadsToTheLeastMap }
 {}
 
-/// Where the canonical search finds a map, its lines are those of a tree that leads to it.
+/// States that, if the canonical search finds a map, then its lines are those of a least tree that
+/// leads to that map.
 pub fn the_canonical_lines_lead_to_the_map()
     ensures { CanonicalLinesLeadToTheMap }
 {}
 
-/// Lines that the checker finds no fault in are those of a tree that leads to the map.
+/// States that the checker of least maps is sound: lines in which it finds no fault are those of a
+/// least tree that leads to the map.
 pub fn accepted_least_lines_lead_to_the_map()
     ensures { AcceptedLeastLinesLeadToTheMap }
 {}
 
-/// The checker finds no fault in the lines of any tree that leads to the map.
+/// States that the checker of least maps is complete: it finds no fault in the lines of any least
+/// tree that leads to the map.
 pub fn lines_of_a_least_tree_are_accepted()
     ensures { LinesOfALeastTreeAreAccepted }
 {}

@@ -1,23 +1,24 @@
-//! What the tool means: tasks, executions, points, decision maps and refutations, and their laws.
+//! The mathematical model: tasks, executions, points, decision maps and refutations, and the laws
+//! that relate them.
 //!
-//! This crate has no program of its own. Its definitions stand in `specs/`, on two levels.
+//! This crate has no program of its own. Its definitions are in `specs/`, on two levels.
 //!
 //! - The terms of the field (Herlihy and Shavit 1999, Borowsky and Gafni 1997): `Simplex`, `Task`,
 //!   `Word`, `View`, `Execution`, `Points`, and `DecisionMap`, in which a decision map is a
 //!   function on the views. Read these first.
-//! - These terms by numbers. In `Problem` points have numbers, and each execution is a constraint.
-//!   `Box`, `Refutation`, `Closing` and `Split` say what a refutation is, in which order the search
-//!   goes and how it is cut into branches. `Check` says what a checker answers. `problem_of` leads
-//!   from the first level to the second.
+//! - The same terms by numbers. In `Problem` points are numbered, and each execution is a
+//!   constraint. `Box`, `Refutation`, `Closing` and `Split` define what a refutation is, in which
+//!   order the search goes and how it is cut into branches. `Check` defines the result of a
+//!   checker. `problem_of` leads from the first level to the second.
 //!
-//! `Report`, `ViewsText` and `PointsText` are the texts, `Presets` the tasks that have names, and
-//! the files of examples hold by computation.
+//! `Report`, `ViewsText` and `PointsText` define the texts, and `Presets` the named tasks. The
+//! files of examples are proved by computation.
 //!
-//! The public functions below are laws: a body is empty, and the clauses are what is proved. Each
-//! clause is one name, which `specs/Laws` defines in the file of the same subject. The main law is
-//! [`the_canonical_answer`], and [`accepted_reports_are_true`] is what a user of a checker reads. A
-//! crate above cites a law's lemma, or calls the law, which puts its clauses among the facts that
-//! are known there.
+//! The public functions below are laws: their bodies are empty, and their clauses are what is
+//! proved. Each clause is one name, which `specs/Laws` defines in the file of the same subject. The
+//! main law is [`the_canonical_answer`]; users of a checker should read
+//! [`accepted_reports_are_true`]. Other crates cite a law's lemma, or call the law, which adds its
+//! clauses to the facts known at the call.
 #![tactic(auto)]
 
 mod closing;

@@ -1,4 +1,4 @@
-//! Laws of decision maps: what they have in common with the solutions of a task's problem.
+//! Laws of decision maps: how they correspond to the solutions of a task's problem.
 
 ghost use Rattle.wf_model.specs.Laws.Maps.{TasksHaveListedValues, ProblemsOfTasksAreWellFormed};
 ghost use Rattle.wf_model.specs.Laws.Maps.{FirstAppearancesAreThePoints, ListedMapsAreSolutions};
@@ -6,50 +6,55 @@ ghost use Rattle.wf_model.specs.Laws.Maps.{SolutionsAreMapsByNumber, MapsLieInTh
 ghost use Rattle.wf_model.specs.Laws.Maps.{SolutionsLieInTheRoot, LeastSolutionIsTheLeastMap};
 ghost use Rattle.wf_model.specs.Laws.Maps.{AllSolutionsAreFound, FaultlessMapsAreSolutions};
 
-/// The values of a task's tuples occur in its output complex.
+/// States that every value in a tuple of a task's Δ occurs in the output complex.
 pub fn tasks_have_listed_values()
     ensures { TasksHaveListedValues }
 {}
 
-/// The problem of a task, for any number of rounds, names its own points alone; its executions
-/// have a place at least, and their processes ascend; and its values ascend.
+/// States that the problem of a task is well-formed for any number of rounds: its executions refer
+/// to its own points only and have at least one place, the processes of an execution are in
+/// ascending order, and so are the problem's values.
 pub fn problems_of_tasks_are_well_formed()
     ensures { ProblemsOfTasksAreWellFormed }
 {}
 
-/// The points of where the points appear first are the points, in their order.
+/// States that the list of the points' first appearances has one entry for each point, in the order
+/// of the points.
 pub fn first_appearances_are_the_points()
     ensures { FirstAppearancesAreThePoints }
 {}
 
-/// Decision maps over the views are the solutions over the numbers of the points: the list of a
-/// map's values is a solution, and reading a solution by the numbers of the points is a map.
+/// States that decision maps and solutions correspond: the list of a decision map's values is a
+/// solution, and a solution, read as a function on the views by the numbers of their points, is a
+/// decision map.
 pub fn maps_are_solutions()
     ensures listed { ListedMapsAreSolutions }
     ensures by_number { SolutionsAreMapsByNumber }
 {}
 
-/// Every decision map lies in the root, the box with every value at every point.
+/// States that every decision map lies in the root box, which has all output values at every point.
 pub fn maps_lie_in_the_root()
     ensures { MapsLieInTheRoot }
 {}
 
-/// Every solution of a task's problem lies in the root.
+/// States that every solution of a task's problem lies in the root box, which has all output values
+/// at every point.
 pub fn solutions_lie_in_the_root()
     ensures { SolutionsLieInTheRoot }
 {}
 
-/// The least solution, read by the numbers of the points, is the least decision map.
+/// States that the least solution of a task's problem, read as a function on the views by the
+/// numbers of their points, is the least decision map.
 pub fn a_least_solution_is_a_least_map()
     ensures { LeastSolutionIsTheLeastMap }
 {}
 
-/// Trying each list of values finds the solutions in the root, and nothing else.
+/// States that trying all lists of values finds exactly the solutions in the root box.
 pub fn all_solutions_are_found()
     ensures { AllSolutionsAreFound }
 {}
 
-/// A checker finds no fault in a list of values exactly where it is a solution.
+/// States that a checker finds no fault in a list of values if and only if the list is a solution.
 pub fn faultless_maps_are_solutions()
     ensures { FaultlessMapsAreSolutions }
 {}

@@ -1,5 +1,5 @@
-//! Laws of whole reports: that those in which a checker finds no fault are true, and that it finds
-//! none in true ones.
+//! Laws of whole reports: a report without a fault is true, and a checker finds no fault in true
+//! reports.
 
 ghost use Rattle.wf_model.specs.Laws.Reports.{AcceptedReportsCountTheProcesses};
 ghost use Rattle.wf_model.specs.Laws.Reports.{AcceptedReportsCountTheRounds};
@@ -13,9 +13,12 @@ ghost use Rattle.wf_model.specs.Laws.Reports.{RefutationsAreAccepted, LeastTrees
 ghost use Rattle.wf_model.specs.Laws.Reports.{CanonicalRefutationsAreAccepted};
 ghost use Rattle.wf_model.specs.Laws.Reports.{CanonicalLeastMapsAreAccepted};
 
-/// A report in which a checker finds no fault is true. Its numbers are those of the task and its
-/// rounds. Where its body is a map, it is a decision map, listed over the points; a map with lines
-/// is the least one; and where its body is lines alone, no function on the views is a decision map.
+/// States that every report in which a checker finds no fault is true.
+///
+/// Such a report has the task's number of processes, the number of rounds, and the numbers of
+/// points and executions. If its body is a map, then that is a decision map, listed over the
+/// points. If its body is a map with lines, then that is the least decision map. If its body is
+/// lines only, then no function on the views is a decision map.
 pub fn accepted_reports_are_true()
     ensures processes { AcceptedReportsCountTheProcesses }
     ensures rounds { AcceptedReportsCountTheRounds }
@@ -28,9 +31,12 @@ pub fn accepted_reports_are_true()
     ensures listed_least_map { AcceptedLeastMapsAreListed }
 {}
 
-/// A checker finds no fault in a true report: any decision map, listed over the points; the lines
-/// of any refutation of the root; those of any tree that leads to a decision map, with that map;
-/// and so what the canonical search writes, where it finds no map and where it finds one.
+/// States that a checker finds no fault in a true report. True reports contain one of these:
+///
+/// - any decision map, listed over the points;
+/// - the lines of any tree that refutes the root box;
+/// - a decision map with the lines of any least tree that leads to it;
+/// - the result of the canonical search, whether it finds a map or not.
 pub fn true_reports_are_accepted()
     ensures map { DecisionMapsAreAccepted }
     ensures refutation { RefutationsAreAccepted }

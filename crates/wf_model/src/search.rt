@@ -1,33 +1,37 @@
-//! Laws of the canonical search: its steps, and what its answers mean.
+//! Laws of the canonical search: its steps, and what its result means.
 
 ghost use Rattle.wf_model.specs.Laws.Search.{CanonicalSearchGoesBySteps, CanonicalSearchRefutes};
 ghost use Rattle.wf_model.specs.Laws.Search.{CanonicalMapIsTheLeastSolution};
 ghost use Rattle.wf_model.specs.Laws.Search.{CanonicalMapIsTheLeastMap, CanonicalSearchLeavesNoMap};
 ghost use Rattle.wf_model.specs.Laws.Search.{BoxHasOneLeastSolution};
 
-/// The canonical search closes the box, and then goes on in the branches of what is left.
+/// States that the canonical search of a box first closes it, and then searches the branches of the
+/// closed box.
 pub fn the_canonical_search_by_steps()
     ensures { CanonicalSearchGoesBySteps }
 {}
 
-/// Where the canonical search finds no map, its lines are those of a tree that refutes the box.
+/// States that, if the canonical search finds no map in a box, then its lines are those of a tree
+/// that refutes the box.
 pub fn the_canonical_search_refutes()
     ensures { CanonicalSearchRefutes }
 {}
 
-/// Where the canonical search finds a map, it is the least solution in the box.
+/// States that a map found by the canonical search of a box is the least solution in that box.
 pub fn the_canonical_map_is_the_least_solution()
     ensures { CanonicalMapIsTheLeastSolution }
 {}
 
-/// What the canonical search of a task's root answers: the least of all decision maps, by the
-/// numbers of the points; and where it finds no map, no function on the views is one.
+/// States what the canonical search of a task's root box decides: a map that it finds is the least
+/// of all decision maps, once it is read as a function on the views; and if it finds none, then no
+/// function on the views is a decision map.
 pub fn the_canonical_answer()
     ensures map { CanonicalMapIsTheLeastMap }
     ensures none { CanonicalSearchLeavesNoMap }
 {}
 
-/// A box has at most one least solution, so who finds one finds the map of the canonical search.
+/// States that a box has at most one least solution. So any search that finds a least solution
+/// finds the map of the canonical search.
 pub fn a_box_has_one_least_solution()
     ensures { BoxHasOneLeastSolution }
 {}

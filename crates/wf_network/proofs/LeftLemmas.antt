@@ -8,7 +8,7 @@ use Rattle.wf_model.specs.Lists.{has}
 use Rattle.wf_model.specs.Task.{Tuple}
 use Rattle.wf_model.specs.Box.{has_at, is_alive, is_supported}
 use Rattle.wf_lane.specs.Table.{HasSupported, Table, sets_of}
-use Rattle.wf_set.specs.Sets.{values_in}
+use Rattle.wf_base.specs.Set.Sets.{values_in}
 
 -- ---- what is supported by some sets is supported by what they support
 

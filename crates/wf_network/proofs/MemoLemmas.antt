@@ -10,18 +10,18 @@ use Rattle.wf_model.specs.Problem.{Constraint, no_constraint}
 use Rattle.wf_lane.specs.Table.{AreFirstParts, HasSupported, Table, sets_of}
 use Rattle.wf_network.specs.Problems.{IsNetwork, IsWide, constraint_seen, constraints_in, executions_in, no_rule, rule_at, rule_in, rule_of}
 use Rattle.wf_network.specs.Users.{no_execution}
-use Rattle.wf_set.specs.Parts.{part_limit, part_values}
-use Rattle.wf_set.specs.Sets.{values_in}
-use Rattle.wf_set.proofs.Lemmas.{has_large, in_four, values_of_part}
+use Rattle.wf_base.specs.Set.Parts.{part_limit, part_values}
+use Rattle.wf_base.specs.Set.Sets.{values_in}
+use Rattle.wf_base.proofs.OfSet.Lemmas.{has_large, in_four, values_of_part}
 use Rattle.wf_model.specs.Lists.{has}
 use Rattle.wf_model.proofs.Lemmas.{has-filter}
 use Rattle.wf_network.specs.Revising.{AreKnown, IsKnown, IsKnownNibbles, IsKnownParts, IsKnownWord, answer_seen, answers_in, nibbles_seen, table_seen, wide_set, widened, word_seen}
 use Rattle.wf_network.specs.declared.memo.TheConstants.{NO_EXECUTION}
-use Rattle.wf_network.specs.declared.memo.Memo.{Memo}
-use Rattle.wf_network.specs.declared.memo.Revised.{Revised}
-use Rattle.wf_network.specs.declared.memo.RevisedNibbles.{RevisedNibbles}
-use Rattle.wf_network.specs.declared.memo.RevisedParts.{RevisedParts}
-use Rattle.wf_network.specs.declared.memo.RevisedWord.{RevisedWord}
+use Rattle.wf_network.specs.declared.memo.SupportCache.{SupportCache}
+use Rattle.wf_network.specs.declared.memo.CacheEntry.{CacheEntry}
+use Rattle.wf_network.specs.declared.memo.NibbleEntry.{NibbleEntry}
+use Rattle.wf_network.specs.declared.memo.Set64Entry.{Set64Entry}
+use Rattle.wf_network.specs.declared.memo.WordEntry.{WordEntry}
 use Rattle.wf_complex.specs.declared.packed.PackedExecution.{PackedExecution}
 use Rattle.wf_network.specs.declared.problem.Network.{Network}
 use Rattle.wf_network.specs.declared.problem.Rule.{Rule}
@@ -46,34 +46,34 @@ from_map P f y (x ∷ xs) all zero d low = all 0 y (omega arith)
 from_map P f y (x ∷ xs) all (suc i) d low = from_map P f y xs (λ k e h. all (suc k) e (omega (arith, h))) i d (omega (arith, low))
 
 -- the answers of a memo for candidates below 4, then those below 16 too, then those below 64 too
-abbrev tiny_in : Memo → List (Option Revised)
+abbrev tiny_in : SupportCache → List (Option CacheEntry)
 tiny_in m = map nibbles_seen m.tiny.items
 
-abbrev small_in : Memo → List (Option Revised)
+abbrev small_in : SupportCache → List (Option CacheEntry)
 small_in m = tiny_in m ++ map word_seen m.small.items
 
-abbrev narrow_in : Memo → List (Option Revised)
+abbrev narrow_in : SupportCache → List (Option CacheEntry)
 narrow_in m = small_in m ++ map answer_seen m.narrow.items
 
-up_to_narrow : (ks : List Constraint) (m : Memo) → AreKnown ks (answers_in m) → AreKnown ks (narrow_in m)
+up_to_narrow : (ks : List Constraint) (m : SupportCache) → AreKnown ks (answers_in m) → AreKnown ks (narrow_in m)
 up_to_narrow ks m known = front (IsKnown ks) (narrow_in m) m.wide.items known
 
-up_to_small : (ks : List Constraint) (m : Memo) → AreKnown ks (answers_in m) → AreKnown ks (small_in m)
+up_to_small : (ks : List Constraint) (m : SupportCache) → AreKnown ks (answers_in m) → AreKnown ks (small_in m)
 up_to_small ks m known = front (IsKnown ks) (small_in m) (map answer_seen m.narrow.items) (up_to_narrow ks m known)
 
-pub tiny_known : (ks : List Constraint) (m : Memo) → AreKnown ks (answers_in m) → All (IsKnownNibbles ks) m.tiny.items
+pub tiny_known : (ks : List Constraint) (m : SupportCache) → AreKnown ks (answers_in m) → All (IsKnownNibbles ks) m.tiny.items
 tiny_known ks m known = from_map (IsKnown ks) nibbles_seen None m.tiny.items (front (IsKnown ks) (tiny_in m) (map word_seen m.small.items) (up_to_small ks m known))
 
-pub small_known : (ks : List Constraint) (m : Memo) → AreKnown ks (answers_in m) → All (IsKnownWord ks) m.small.items
+pub small_known : (ks : List Constraint) (m : SupportCache) → AreKnown ks (answers_in m) → All (IsKnownWord ks) m.small.items
 small_known ks m known = from_map (IsKnown ks) word_seen None m.small.items (back (IsKnown ks) (tiny_in m) (map word_seen m.small.items) (up_to_small ks m known))
 
-pub narrow_known : (ks : List Constraint) (m : Memo) → AreKnown ks (answers_in m) → All (IsKnownParts ks) m.narrow.items
+pub narrow_known : (ks : List Constraint) (m : SupportCache) → AreKnown ks (answers_in m) → All (IsKnownParts ks) m.narrow.items
 narrow_known ks m known = from_map (IsKnown ks) answer_seen None m.narrow.items (back (IsKnown ks) (small_in m) (map answer_seen m.narrow.items) (up_to_narrow ks m known))
 
-pub wide_known : (ks : List Constraint) (m : Memo) → AreKnown ks (answers_in m) → All (IsKnown ks) m.wide.items
+pub wide_known : (ks : List Constraint) (m : SupportCache) → AreKnown ks (answers_in m) → All (IsKnown ks) m.wide.items
 wide_known ks m known = back (IsKnown ks) (narrow_in m) m.wide.items known
 
-pub all_known : (ks : List Constraint) (tiny : List RevisedNibbles) (small : List RevisedWord) (narrow : List (Option RevisedParts)) (wide : List (Option Revised)) → All (IsKnownNibbles ks) tiny → All (IsKnownWord ks) small → All (IsKnownParts ks) narrow → All (IsKnown ks) wide
+pub all_known : (ks : List Constraint) (tiny : List NibbleEntry) (small : List WordEntry) (narrow : List (Option Set64Entry)) (wide : List (Option CacheEntry)) → All (IsKnownNibbles ks) tiny → All (IsKnownWord ks) small → All (IsKnownParts ks) narrow → All (IsKnown ks) wide
     → AreKnown ks (map nibbles_seen tiny ++ map word_seen small ++ map answer_seen narrow ++ wide)
 all_known ks tiny small narrow wide first second third fourth =
     let P = IsKnown ks in
@@ -138,7 +138,7 @@ lead_table n rule network low inside =
     table_at n lead network inside (few_at n lead network inside) ∙ (network.leads rule (omega (arith, low, network.as_many_leads))).same inside
 
 -- what is kept for that execution serves for the rule
-pub known_serves : (n : Network) (rule : ℕ) (known : Revised) → IsNetwork n → rule < length n.rules.items → known.execution ≡ slice_index n.leads.items rule
+pub known_serves : (n : Network) (rule : ℕ) (known : CacheEntry) → IsNetwork n → rule < length n.rules.items → known.execution ≡ slice_index n.leads.items rule
     → IsKnown (constraints_in n) (Some known) → HasSupported known.supported (rule_at n rule).table known.candidates
 known_serves n rule known network low is right =
     let inside : slice_index n.leads.items rule < length (executions_in n) = omega (arith, is, right.there, length-map (executions_in n) (constraint_seen n.rules.items)) in

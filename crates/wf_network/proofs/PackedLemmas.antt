@@ -7,9 +7,9 @@ use Rattle.std.proofs.lemmas.List.Elements.{All-cons, All-map, All-nil}
 use Rattle.std.proofs.lemmas.Nat.Bits.{bit_at_above, bit_at_cat_low}
 use Rattle.wf_model.specs.Lists.{has}
 use Rattle.wf_lane.specs.Table.{HasSupported, Table, sets_of}
-use Rattle.wf_set.specs.Parts.{part_values}
-use Rattle.wf_set.specs.Sets.{values_in}
-use Rattle.wf_set.proofs.Lemmas.{has-part_values, has_large, values_of_part}
+use Rattle.wf_base.specs.Set.Parts.{part_values}
+use Rattle.wf_base.specs.Set.Sets.{values_in}
+use Rattle.wf_base.proofs.OfSet.Lemmas.{has-part_values, has_large, values_of_part}
 use Rattle.wf_network.specs.Revising.{nibbles_in, parts_in, wide_set, widened}
 use Rattle.wf_network.proofs.LeftLemmas.{sets_at, supported_there}
 

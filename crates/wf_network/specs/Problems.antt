@@ -4,7 +4,7 @@ use Rattle.wf_model.specs.Simplex.{Simplex, processes_of}
 use Rattle.wf_model.specs.Task.{IsTaskSimplex}
 use Rattle.wf_model.specs.Task as task
 use Rattle.wf_model.specs.Problem.{Problem, Constraint, IsWellFormed}
-use Rattle.wf_set.specs.Sets.{values_in}
+use Rattle.wf_base.specs.Set.Sets.{values_in}
 use Rattle.wf_model.specs.Limits.{most_executions, most_points}
 use Rattle.wf_network.specs.Users.{AreTold, AreUsers, no_execution}
 use Rattle.wf_network.specs.declared.problem.Rule.{Rule}

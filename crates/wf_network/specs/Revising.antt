@@ -2,11 +2,11 @@
 use Rattle.std.specs.Prelude.{ℕ, ◌≡◌, ◌≢◌, ◌<◌, ◌*◌, ◌/◌, ◌%◌, ◌==◌, cond, List, [], ◌∷◌, ◌++◌, map, All, length, get_or, Option, Some, None}
 use Rattle.wf_model.specs.Problem.{Constraint, no_constraint}
 use Rattle.wf_lane.specs.Table.{HasSupported, Table}
-use Rattle.wf_network.specs.declared.memo.Memo.{Memo}
-use Rattle.wf_network.specs.declared.memo.Revised.{Revised}
-use Rattle.wf_network.specs.declared.memo.RevisedNibbles.{RevisedNibbles}
-use Rattle.wf_network.specs.declared.memo.RevisedParts.{RevisedParts}
-use Rattle.wf_network.specs.declared.memo.RevisedWord.{RevisedWord}
+use Rattle.wf_network.specs.declared.memo.SupportCache.{SupportCache}
+use Rattle.wf_network.specs.declared.memo.CacheEntry.{CacheEntry}
+use Rattle.wf_network.specs.declared.memo.NibbleEntry.{NibbleEntry}
+use Rattle.wf_network.specs.declared.memo.Set64Entry.{Set64Entry}
+use Rattle.wf_network.specs.declared.memo.WordEntry.{WordEntry}
 use Rattle.wf_network.specs.declared.memo.TheConstants.{NO_EXECUTION}
 use Rattle.wf_network.specs.declared.revising.TheConstants.{SMALL_LIMIT, TINY_LIMIT}
 use Rattle.wf_complex.specs.declared.packed.PackedExecution.{PackedExecution}
@@ -60,42 +60,42 @@ abbrev pub table_seen : Constraint → Table
 table_seen k = record { width = length k.scope; rows = k.tuples }
 
 -- the answer is right for its execution, which is there
-pub record IsRight (ks : List Constraint) (known : Revised) : Type 0 where
+pub record IsRight (ks : List Constraint) (known : CacheEntry) : Type 0 where
   pub there : known.execution < length ks
   pub supported : HasSupported known.supported (table_seen (get_or ks known.execution no_constraint)) known.candidates
 
 -- what is kept is right, if something is
-abbrev pub IsKnown : List Constraint → Option Revised → Type 0
+abbrev pub IsKnown : List Constraint → Option CacheEntry → Type 0
 IsKnown ks None = Unit {0}
 IsKnown ks (Some known) = IsRight ks known
 
 -- each answer that is kept is right
-abbrev pub AreKnown : List Constraint → List (Option Revised) → Type 0
+abbrev pub AreKnown : List Constraint → List (Option CacheEntry) → Type 0
 AreKnown ks answers = All (IsKnown ks) answers
 
 -- an answer for candidates below 64 as one for sets
-abbrev pub answer_seen : Option RevisedParts → Option Revised
+abbrev pub answer_seen : Option Set64Entry → Option CacheEntry
 answer_seen None = None
 answer_seen (Some known) =
     Some (record { execution = known.execution; candidates = widened known.candidates; supported = widened known.supported })
 
-abbrev pub IsKnownParts : List Constraint → Option RevisedParts → Type 0
+abbrev pub IsKnownParts : List Constraint → Option Set64Entry → Type 0
 IsKnownParts ks known = IsKnown ks (answer_seen known)
 
 -- an answer for candidates below 16, if it is one, as one for sets
-abbrev pub word_seen : RevisedWord → Option Revised
+abbrev pub word_seen : WordEntry → Option CacheEntry
 word_seen known = cond (known.execution == NO_EXECUTION) None (Some (record { execution = known.execution; candidates = widened (parts_in known.candidates); supported = widened (parts_in known.supported) }))
 
-abbrev pub IsKnownWord : List Constraint → RevisedWord → Type 0
+abbrev pub IsKnownWord : List Constraint → WordEntry → Type 0
 IsKnownWord ks known = IsKnown ks (word_seen known)
 
 -- an answer for candidates below 4, if it is one, as one for sets
-abbrev pub nibbles_seen : RevisedNibbles → Option Revised
+abbrev pub nibbles_seen : NibbleEntry → Option CacheEntry
 nibbles_seen known = cond (known.execution == NO_EXECUTION) None (Some (record { execution = known.execution; candidates = widened (nibbles_in known.candidates); supported = widened (nibbles_in known.supported) }))
 
-abbrev pub IsKnownNibbles : List Constraint → RevisedNibbles → Type 0
+abbrev pub IsKnownNibbles : List Constraint → NibbleEntry → Type 0
 IsKnownNibbles ks known = IsKnown ks (nibbles_seen known)
 
 -- all answers of a memo
-abbrev pub answers_in : Memo → List (Option Revised)
+abbrev pub answers_in : SupportCache → List (Option CacheEntry)
 answers_in m = map nibbles_seen m.tiny.items ++ map word_seen m.small.items ++ map answer_seen m.narrow.items ++ m.wide.items

@@ -1,4 +1,4 @@
-//! Executions that stand for the rules with one table.
+//! Chooses for each rule the execution by whose number the kernel cache knows its table.
 
 ghost use Rattle.std.specs.Prelude.{◌≡◌, ◌<◌, ◌≤◌, ◌^◌, get_or, length, IfOk};
 ghost use Rattle.wf_model.specs.Limits.{most_executions};
@@ -9,9 +9,9 @@ use crate::problem::Rule;
 use std::alloc::{AllocError, Global};
 use wf_complex::PackedExecution;
 
-/// For each rule an execution whose rule has the same table, the same one for all rules of which
-/// one names the other; how many executions there are where none is found. Refused where memory
-/// runs out.
+/// Returns for each rule the number of an execution whose rule has the same table. Rules that are
+/// linked by `Rule::like` get the same number. A rule gets the length of `executions` if no such
+/// execution is found.
 pub(crate) fn leads(
     alloc: Global,
     rules: &[Rule],
@@ -31,8 +31,8 @@ pub(crate) fn leads(
     Ok(leads)
 }
 
-/// The execution that stands for the rules with the table of this one, if the rules before it have
-/// these.
+/// Returns the entry of `leads` for the rule `number`, given in `leads` the entries of the rules
+/// before it.
 fn lead_of(rules: &[Rule], executions: &[PackedExecution], leads: &[u32], number: usize) -> u32
     requires alike { AreAlike rules.now }
     requires few { length executions.now ≤ most_executions }
@@ -48,8 +48,9 @@ fn lead_of(rules: &[Rule], executions: &[PackedExecution], leads: &[u32], number
     }
 }
 
-/// An execution with the rule of this number, found by halving: those of one rule lie together, and
-/// the rules come in order. How many there are where it is not found.
+/// Returns the number of the first execution whose input simplex has the rule `rule`, or the length
+/// of `executions` if there is none. A binary search: the executions are in ascending order of
+/// their rules.
 fn first_of(executions: &[PackedExecution], rule: u32) -> u32
     requires few { length executions.now ≤ most_executions }
     ensures { IsOfRule executions.now rule result }

@@ -1,16 +1,23 @@
-//! The constraint problem of a task and its protocol complex, as it is kept, marks on its
-//! executions, and what the rules of executions support, with the answers that are kept.
+//! The constraint problem of a task and its protocol complex, the queue of its marked executions,
+//! and the values that rules support, with a cache for them.
 //!
-//! - [`Problem`]: the constraint problem. Each input simplex has one table of tuples, which its
-//!   executions share, and simplices near it with the same tuples.
+//! For readers who know constraint solving: a point is a variable, a candidate is a value of its
+//! domain, an execution is a table constraint (executions of one input simplex share their table),
+//! a mark is an entry of the propagation queue, the kernel revises a table, and [`SupportCache`]
+//! caches its results, as residual supports do.
+//!
+//! - [`Problem`]: the constraint problem; begin reading here.
 //! - [`Network`]: its rules, its executions ([`PackedExecution`]), and [`Users`], the executions of
 //!   each point.
-//! - [`Marks`]: marks on executions, of which the next one is found fast.
-//! - [`supported_nibbles`], [`supported_word`], [`supported_narrow`] and [`supported_sets`]: the
-//!   values that a rule supports at each place for candidates below 4, below 16, below 64, and any.
-//! - [`Memo`]: answers of the kernel, each at a place by its rule and its candidates.
-//! - [`candidates_at`], [`in_nibbles`], [`in_word`] and [`narrowed`]: the candidates of an
-//!   execution's points, and the same if each is below 4, 16 or 64.
+//! - [`Marks`]: a set of marked executions in which the next one is found fast.
+//! - [`supported_nibbles`], [`supported_word`], [`supported_narrow`] and [`supported_sets`] return
+//!   the values that a rule supports at each place for candidates below 4, below 16, below 64, and
+//!   of any size.
+//! - [`SupportCache`]: the kernel cache, in which a rule and its candidates determine a slot.
+//! - [`candidates_at`], [`pack_nibbles`], [`pack_word`] and [`narrowed`] return the candidates of
+//!   an execution's points, and pack them if each is below 4, 16 or 64.
+//!
+//! Only [`SupportCache::grow`] and the functions that return an `AllocError` allocate.
 #![tactic(auto)]
 
 mod leads;
@@ -21,10 +28,10 @@ mod revising;
 mod users;
 
 pub use marks::Marks;
-pub use memo::{Memo, Revised, RevisedNibbles, RevisedParts, RevisedWord};
+pub use memo::{CacheEntry, NibbleEntry, Set64Entry, SupportCache, WordEntry};
 pub use problem::{Network, Problem, Rule};
 pub use revising::{
-    candidates_at, in_nibbles, in_word, narrowed, supported_narrow, supported_nibbles,
+    candidates_at, narrowed, pack_nibbles, pack_word, supported_narrow, supported_nibbles,
     supported_sets, supported_word, unpacked, unpacked_nibbles,
 };
 pub use users::{MarkMask, Users};

@@ -1,4 +1,4 @@
-//! Marks on executions.
+//! Marks on executions: the propagation queue.
 
 ghost use Rattle.std.specs.Prelude.{◌≡◌, ◌<◌, ◌≤◌, ◌*◌, ◌/◌, ◌^◌, [], All, length, slice_index, ◌⊎◌, OnErr, OnOk, IfSome, IfNone};
 ghost use Rattle.wf_model.specs.Limits.{most_executions};
@@ -8,15 +8,17 @@ ghost use Rattle.wf_network.specs.Marks.{AreSetBelow, HasRoom, IsHalf, IsLast, I
 use crate::users::MarkMask;
 use std::alloc::{AllocError, Global};
 
-/// What lifts the bits of half a word into its upper half.
+/// Factor that shifts the bits of the lower half of a 64-bit word into its upper half.
 const HALF: u64 = 1 << 32;
 
-/// Marks on executions, of which the next one is found fast.
+/// A set of marked executions: a bit set, and a summary of which of its words are not 0, by which
+/// the next marked execution is found fast.
 #[derive(Drop)]
 pub struct Marks {
-    /// Bit n % 64 of word n / 64 is set where execution n is marked.
+    /// Marks of the executions: bit n % 64 of word n / 64 is set if execution n is marked.
     pub words: Vec<u64>,
-    /// Bit n % 64 of word n / 64 is set where the words' word n is not 0.
+    /// Summary of `words`: bit n % 64 of `tops[n / 64]` is set if `words[n]` is not 0, and may be
+    /// set if it is 0.
     pub tops: Vec<u64>,
     ghost few: { length words.items ≤ most_words },
     ghost few_tops: { length tops.items ≤ most_words },
@@ -25,7 +27,7 @@ pub struct Marks {
 }
 
 impl Marks {
-    /// No marks, and room for none.
+    /// Creates an empty set of marks with room for no execution. See [`Marks::reserve`].
     pub fn new(alloc: Global) -> Marks
         ensures none { result.words.items ≡ [] }
     {
@@ -35,8 +37,12 @@ impl Marks {
         }
     }
 
-    /// Makes room for the marks of so many executions. Where there was too little, none is marked
-    /// then. Refused where memory runs out, which leaves the marks as they were.
+    /// Makes room for the marks of at least `executions` executions. If there was too little room,
+    /// no execution is marked afterwards; else nothing changes.
+    ///
+    /// # Errors
+    ///
+    /// Returns `AllocError` if memory runs out; the marks are then unchanged.
     pub fn reserve(&mut self, alloc: Global, executions: u32) -> Result<(), AllocError>
         requires { executions ≤ most_executions }
         ensures room { OnOk result (executions ≤ 64 * length self.new.words.items) }
@@ -56,7 +62,8 @@ impl Marks {
         Ok(())
     }
 
-    /// Marks the executions of these words, and no other.
+    /// Marks the executions of all `words`, and no others. Each of `words` must lie within the room
+    /// for marks.
     pub fn mark_each(&mut self, words: &[MarkMask])
         requires { All (λ w. w.word < 2 * length self.old.words.items) words.now }
         ensures marked { MarksEach self.new.words.items words.now }
@@ -69,7 +76,7 @@ impl Marks {
         }
     }
 
-    /// Marks the executions of a word.
+    /// Marks the executions of `users`.
     fn mark(&mut self, users: MarkMask)
         requires { users.word < 2 * length self.old.words.items }
         ensures marked { MarksWord self.new.words.items users }
@@ -81,7 +88,7 @@ impl Marks {
         add_users(&mut self.words, users);
     }
 
-    /// Marks all executions.
+    /// Marks all executions that there is room for, also numbers past the last execution.
     pub fn mark_all(&mut self)
         ensures marked { AreSetBelow (64 * length self.old.words.items) self.new.words.items }
         ensures long { length self.new.words.items ≡ length self.old.words.items }
@@ -90,7 +97,7 @@ impl Marks {
         self.tops.fill(u64::MAX);
     }
 
-    /// Takes all marks away.
+    /// Removes all marks. It writes only to the words that may have marks.
     pub fn clear(&mut self)
         ensures cleared { IsLast self.new.words.items 0 }
         ensures long { length self.new.words.items ≡ length self.old.words.items }
@@ -106,7 +113,8 @@ impl Marks {
         }
     }
 
-    /// Takes the mark of the first marked execution from this one on away.
+    /// Removes the mark of the first marked execution whose number is at least `from`, and returns
+    /// that number. Returns `None` if no such execution is marked.
     pub fn take_next(&mut self, from: u32) -> Option<u32>
         ensures next { IfSome result (IsNext self.old.words.items from) }
         ensures taken { IfSome result (λ n. bit_of self.new.words.items n ≡ 0) }
@@ -120,7 +128,7 @@ impl Marks {
         Some(number)
     }
 
-    /// Takes the mark of an execution away.
+    /// Removes the mark of execution `number`, if it has one. There must be room for its mark.
     pub fn take(&mut self, number: u32)
         requires { number < 64 * length self.old.words.items }
         ensures taken { bit_of self.new.words.items number ≡ 0 }
@@ -133,7 +141,7 @@ impl Marks {
         }
     }
 
-    /// The first marked execution from this one on.
+    /// Returns the first marked execution whose number is at least `from`.
     fn next(&self, from: usize) -> Option<usize>
         requires { from < 2 ^ 32 }
         ensures next { IfSome result (IsNext self.now.words.items from) }
@@ -151,7 +159,7 @@ impl Marks {
     }
 }
 
-/// The first bit that is set, from this one on.
+/// Returns the index of the first set bit at or after `from` in a bit set.
 fn next_bit(words: &[u64], from: usize) -> Option<usize>
     requires few { length words.now ≤ most_words }
     requires low { from < 2 ^ 33 }
@@ -169,7 +177,8 @@ fn next_bit(words: &[u64], from: usize) -> Option<usize>
     None
 }
 
-/// The first bit that is set in the word of this one, from this one on.
+/// Returns the index of the first set bit at or after `from` in the word that holds bit `from`, or
+/// `None` if the rest of that word is 0.
 fn first_here(words: &[u64], from: usize) -> Option<usize>
     requires within { from / 64 < length words.now }
     requires low { from < 2 ^ 34 }
@@ -183,7 +192,7 @@ fn first_here(words: &[u64], from: usize) -> Option<usize>
     Some(from + here.trailing_zeros() as usize)
 }
 
-/// Sets a bit.
+/// Sets bit `bit` of a bit set.
 fn add_bit(words: &mut Vec<u64>, bit: usize)
     requires { bit < 64 * length words.old.items }
     ensures added { bit_of words.new.items bit ≡ 1 }
@@ -194,7 +203,7 @@ fn add_bit(words: &mut Vec<u64>, bit: usize)
     words[bit / 64] |= 1 << (bit % 64);
 }
 
-/// Sets the bits of these executions.
+/// Sets the bits of the executions of `users` in a bit set.
 fn add_users(words: &mut Vec<u64>, users: MarkMask)
     requires { users.word < 2 * length words.old.items }
     ensures marked { MarksWord words.new.items users }
@@ -206,8 +215,8 @@ fn add_users(words: &mut Vec<u64>, users: MarkMask)
     words[users.word as usize / 2] |= half_of(users);
 }
 
-/// The bits of these executions, in the lower or the upper half of the word of marks that they
-/// share with 32 others.
+/// Returns the bits of `users` at their positions in a 64-bit word of marks, of which `users`
+/// covers the lower or the upper half.
 fn half_of(users: MarkMask) -> u64
     ensures { IsHalf users result }
 {
@@ -219,7 +228,7 @@ fn half_of(users: MarkMask) -> u64
     }
 }
 
-/// Takes a bit away, and answers what its word is then.
+/// Clears bit `bit` of a bit set, and returns its word as it is afterwards.
 fn take_bit(words: &mut Vec<u64>, bit: usize) -> u64
     requires { bit < 64 * length words.old.items }
     ensures left { result ≡ slice_index words.new.items (bit / 64) }

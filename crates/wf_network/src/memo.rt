@@ -1,129 +1,139 @@
-//! Answers of the kernel that a box keeps.
+//! The kernel cache: results of the kernel, which finds the values that a rule supports.
 
 ghost use Rattle.std.specs.Prelude.{◌≡◌, [], All, List, Some};
 ghost use Rattle.wf_model.specs.Problem.{Constraint};
 ghost use Rattle.wf_network.specs.Revising.{AreKnown, IsKnown, IsKnownNibbles, IsKnownParts, IsKnownWord, answers_in};
 
 use std::alloc::Global;
-use wf_set::Mask;
-use wf_set::part::Part;
+use wf_base::set::Mask;
+use wf_base::set::set64::Set64;
 
-/// How many places for answers there are at first.
+/// Number of slots that a table of the cache has at first.
 const FEWEST: usize = 64;
 
-/// How many there are at most for candidates of which one is 64 or more.
-const MOST_WIDE: usize = 4096;
+/// Largest number of slots for candidates of which one is 64 or more.
+const MAX_WIDE: usize = 4096;
 
-/// How many there are at most for candidates below 4, and for others below 64 of which one is 16 or
-/// more.
-const MOST_NARROW: usize = 65536;
+/// Largest number of slots for candidates below 4, and for candidates below 64 of which one is 16
+/// or more.
+const MAX_NARROW: usize = 65536;
 
-/// How many there are at most for candidates below 16 of which one is 4 or more. Few values leave
-/// few such answers; many values leave more than there are places, and each costs a walk over the
-/// rule's tuples. With twice as many places, small questions would take longer with several
-/// workers, since each worker has places of its own.
-const MOST_SMALL: usize = 131_072;
+/// Largest number of slots for candidates below 16 of which one is 4 or more.
+///
+/// Tasks with few values have few such results. Tasks with many values have more of them than there
+/// are slots, and each miss costs a walk over the rule's tuples. With twice as many slots, small
+/// tasks would take longer with several workers, since each worker has a cache of its own.
+const MAX_SMALL: usize = 131_072;
 
-/// The places become so many times as many, or as many as there may be.
+/// Factor by which the number of slots grows, up to its largest value.
 const GROWTH: usize = 4;
 
-/// What the rule of an execution supports at each place for some candidates.
+/// A cached result for candidates of any size: the values that a rule supports at each place.
 #[derive(Clone, Copy, Debug)]
-pub struct Revised {
-    /// The execution that stands for the rules with this table.
+pub struct CacheEntry {
+    /// The execution that stands for all rules with this table. See `Network::leads`.
     pub execution: u32,
     /// The candidates at each place.
     pub candidates: [Mask; 4],
-    /// Those of them that the rule supports.
+    /// The candidates that the rule supports, at each place. Past the places of the rule the sets
+    /// are empty.
     pub supported: [Mask; 4],
 }
 
-/// What the rule of an execution supports at each place, for candidates that are all below 64: a
-/// quarter of the memory of [`Revised`]. Past the places of the rule stands what is supported at
-/// the first place, whose point stands there again. So if nothing is lost, what is supported equals
-/// the candidates.
+/// A cached result for candidates that are all below 64. It has a quarter of the size of
+/// [`CacheEntry`].
+///
+/// Past the places of the rule, `candidates` and `supported` repeat the first place, since the
+/// first point of the execution is repeated there. So `supported` equals `candidates` if no
+/// candidate is lost.
 #[derive(Clone, Copy, Debug)]
-pub struct RevisedParts {
-    /// The execution that stands for the rules with this table.
+pub struct Set64Entry {
+    /// The execution that stands for all rules with this table. See `Network::leads`.
     pub execution: u32,
     /// The candidates at each place.
-    pub candidates: [Part; 4],
-    /// Those of them that the rule supports.
-    pub supported: [Part; 4],
+    pub candidates: [Set64; 4],
+    /// The candidates that the rule supports, at each place.
+    pub supported: [Set64; 4],
 }
 
-/// What the rule of an execution supports, for candidates that are all below 16. One machine word
-/// has 16 bits for each place, those of the first place lowest.
+/// A cached result for candidates that are all below 16. A `u64` has 16 bits for each place, those
+/// of the first place lowest. Past the places of the rule, the first place is repeated.
 #[derive(Clone, Copy, Debug)]
-pub struct RevisedWord {
-    /// The execution that stands for the rules with this table; where there is no answer, a number
-    /// that no execution has.
+pub struct WordEntry {
+    /// The execution that stands for all rules with this table, or in an empty slot `u32::MAX`,
+    /// which is no execution's number.
     pub execution: u32,
     /// The candidates at each place.
     pub candidates: u64,
-    /// Those of them that the rule supports.
+    /// The candidates that the rule supports, at each place.
     pub supported: u64,
 }
 
-/// What the rule of an execution supports, for candidates that are all below 4, in eight bytes:
-/// four bits for each place, those of the first place lowest. Most problems have no larger
-/// candidates, and more of these answers lie near each other.
+/// A cached result for candidates that are all below 4, in eight bytes: a `u16` has four bits for
+/// each place, those of the first place lowest. Past the places of the rule, the first place is
+/// repeated.
+///
+/// Most problems have no larger candidates, and the smaller the results are, the more of them fit
+/// into the processor's caches.
 #[derive(Clone, Copy, Debug)]
-pub struct RevisedNibbles {
-    /// The execution that stands for the rules with this table; where there is no answer, a number
-    /// that no execution has.
+pub struct NibbleEntry {
+    /// The execution that stands for all rules with this table, or in an empty slot `u32::MAX`,
+    /// which is no execution's number.
     pub execution: u32,
     /// The candidates at each place.
     pub candidates: u16,
-    /// Those of them that the rule supports.
+    /// The candidates that the rule supports, at each place.
     pub supported: u16,
 }
 
-/// The number that no execution has.
+/// A number that no execution has. It tells an empty slot of the cache.
 const NO_EXECUTION: u32 = u32::MAX;
 
-/// No answer for candidates below 4.
-const NO_NIBBLES: RevisedNibbles = RevisedNibbles {
+/// An empty slot for candidates below 4.
+const NO_NIBBLES: NibbleEntry = NibbleEntry {
     execution: NO_EXECUTION,
     candidates: 0,
     supported: 0,
 };
 
-/// No answer for candidates below 16.
-const NO_WORD: RevisedWord = RevisedWord {
+/// An empty slot for candidates below 16.
+const NO_WORD: WordEntry = WordEntry {
     execution: NO_EXECUTION,
     candidates: 0,
     supported: 0,
 };
 
-/// Answers of the kernel. Each has its place by its rule and its candidates,
-/// and stays there until another one comes.
+/// The kernel cache. It has four direct-mapped tables, by the size of the candidates: a rule and
+/// its candidates determine the one slot in which their result may lie, and it stays there until
+/// another result replaces it.
+///
+/// No result of a search depends on what is cached; a miss only costs time.
 #[derive(Drop)]
-pub struct Memo {
-    /// Those for candidates below 4.
-    pub tiny: Vec<RevisedNibbles>,
-    /// How many of these were not there, since it has so many places for them.
+pub struct SupportCache {
+    /// Results for candidates that are all below 4.
+    pub tiny: Vec<NibbleEntry>,
+    /// Number of results that were added to `tiny` since it last grew, that is, of its misses.
     pub tiny_misses: u32,
-    /// Those for others below 16.
-    pub small: Vec<RevisedWord>,
-    /// How many of these were not there.
+    /// Results for candidates below 16 of which one is 4 or more.
+    pub small: Vec<WordEntry>,
+    /// Number of results that were added to `small` since it last grew, that is, of its misses.
     pub small_misses: u32,
-    /// Those for others below 64.
-    pub narrow: Vec<Option<RevisedParts>>,
-    /// How many of these were not there.
+    /// Results for candidates below 64 of which one is 16 or more.
+    pub narrow: Vec<Option<Set64Entry>>,
+    /// Number of results that were added to `narrow` since it last grew, that is, of its misses.
     pub narrow_misses: u32,
-    /// Those for others.
-    pub wide: Vec<Option<Revised>>,
-    /// How many of these were not there.
+    /// Results for candidates of which one is 64 or more.
+    pub wide: Vec<Option<CacheEntry>>,
+    /// Number of results that were added to `wide` since it last grew, that is, of its misses.
     pub wide_misses: u32,
 }
 
-impl Memo {
-    /// No answer, and no place for one.
-    pub fn new(alloc: Global) -> Memo
+impl SupportCache {
+    /// Creates an empty cache without slots. [`SupportCache::grow`] makes the first ones.
+    pub fn new(alloc: Global) -> SupportCache
         ensures { answers_in result ≡ [] }
     {
-        Memo {
+        SupportCache {
             tiny: Vec::new(alloc),
             tiny_misses: 0,
             small: Vec::new(alloc),
@@ -135,9 +145,11 @@ impl Memo {
         }
     }
 
-    /// Makes more places where too many answers were not there. Those for candidates below 64 are
-    /// kept, and the others are forgotten. Where memory for that is refused it stays as it was: an
-    /// answer that is not there costs time alone.
+    /// Adds slots to each table that had too many misses. Results for candidates below 64 move to
+    /// their new slots, where one may replace another; those for larger candidates are dropped if
+    /// their table grows.
+    ///
+    /// If memory runs out for a table, it stays unchanged.
     pub fn grow(&mut self, alloc: Global)
         ensures { (ks : List Constraint) → AreKnown ks (answers_in self.old)
             → AreKnown ks (answers_in self.new) }
@@ -148,12 +160,12 @@ impl Memo {
         self.grow_wide(alloc);
     }
 
-    /// Makes more places for candidates below 4, if too many of their answers were not there.
+    /// Adds slots for candidates below 4 if there were too many misses.
     fn grow_tiny(&mut self, alloc: Global)
         ensures { (ks : List Constraint) → AreKnown ks (answers_in self.old)
             → AreKnown ks (answers_in self.new) }
     {
-        let places = places_wanted(self.tiny.len(), self.tiny_misses, MOST_NARROW);
+        let places = slots_wanted(self.tiny.len(), self.tiny_misses, MAX_NARROW);
         if places > self.tiny.len()
             && let Ok(tiny) = vec![in alloc; NO_NIBBLES; places]
         {
@@ -164,12 +176,12 @@ impl Memo {
         }
     }
 
-    /// Makes more places for candidates below 16, if too many of their answers were not there.
+    /// Adds slots for candidates below 16 if there were too many misses.
     fn grow_small(&mut self, alloc: Global)
         ensures { (ks : List Constraint) → AreKnown ks (answers_in self.old)
             → AreKnown ks (answers_in self.new) }
     {
-        let places = places_wanted(self.small.len(), self.small_misses, MOST_SMALL);
+        let places = slots_wanted(self.small.len(), self.small_misses, MAX_SMALL);
         if places > self.small.len()
             && let Ok(small) = vec![in alloc; NO_WORD; places]
         {
@@ -180,12 +192,12 @@ impl Memo {
         }
     }
 
-    /// Makes more places for candidates below 64, if too many of their answers were not there.
+    /// Adds slots for candidates below 64 if there were too many misses.
     fn grow_narrow(&mut self, alloc: Global)
         ensures { (ks : List Constraint) → AreKnown ks (answers_in self.old)
             → AreKnown ks (answers_in self.new) }
     {
-        let places = places_wanted(self.narrow.len(), self.narrow_misses, MOST_NARROW);
+        let places = slots_wanted(self.narrow.len(), self.narrow_misses, MAX_NARROW);
         if places > self.narrow.len()
             && let Ok(narrow) = vec![in alloc; None; places]
         {
@@ -196,14 +208,14 @@ impl Memo {
         }
     }
 
-    /// Makes more places for candidates of any size, if too many of their answers were not there.
-    /// The answers that were kept are forgotten.
+    /// Adds slots for candidates of which one is 64 or more if there were too many misses. The
+    /// results in the old slots are dropped.
     fn grow_wide(&mut self, alloc: Global)
         ensures { (ks : List Constraint) → AreKnown ks (answers_in self.old)
             → AreKnown ks (answers_in self.new) }
     {
-        let places = places_wanted(self.wide.len(), self.wide_misses, MOST_WIDE);
-        // most problems have none of these
+        let places = slots_wanted(self.wide.len(), self.wide_misses, MAX_WIDE);
+        // most problems have no such candidates, and need no slots for them
         if self.wide_misses > 0
             && places > self.wide.len()
             && let Ok(wide) = vec![in alloc; None; places]
@@ -213,9 +225,9 @@ impl Memo {
         }
     }
 
-    /// Keeps an answer for candidates below 4 at this place, where there is
-    /// one, and forgets the one that was there.
-    pub(crate) fn keep_nibbles(&mut self, place: usize, answer: RevisedNibbles)
+    /// Stores `answer` in the slot `place` for candidates below 4, if there is such a slot, in
+    /// place of the result that was there, and counts a miss.
+    pub(crate) fn keep_nibbles(&mut self, place: usize, answer: NibbleEntry)
         ensures { (ks : List Constraint) → IsKnownNibbles ks answer
             → AreKnown ks (answers_in self.old) → AreKnown ks (answers_in self.new) }
     {
@@ -225,9 +237,9 @@ impl Memo {
         }
     }
 
-    /// Keeps an answer for candidates below 16 at this place, if there is one, and forgets the
-    /// answer that was there.
-    pub(crate) fn keep_small(&mut self, place: usize, answer: RevisedWord)
+    /// Stores `answer` in the slot `place` for candidates below 16, if there is such a slot, in
+    /// place of the result that was there, and counts a miss.
+    pub(crate) fn keep_small(&mut self, place: usize, answer: WordEntry)
         ensures { (ks : List Constraint) → IsKnownWord ks answer
             → AreKnown ks (answers_in self.old) → AreKnown ks (answers_in self.new) }
     {
@@ -237,9 +249,9 @@ impl Memo {
         }
     }
 
-    /// Keeps an answer for candidates below 64 at this place, if there is one, and forgets the
-    /// answer that was there.
-    pub(crate) fn keep_narrow(&mut self, place: usize, answer: RevisedParts)
+    /// Stores `answer` in the slot `place` for candidates below 64, if there is such a slot, in
+    /// place of the result that was there, and counts a miss.
+    pub(crate) fn keep_narrow(&mut self, place: usize, answer: Set64Entry)
         ensures { (ks : List Constraint) → IsKnownParts ks (Some answer)
             → AreKnown ks (answers_in self.old) → AreKnown ks (answers_in self.new) }
     {
@@ -249,9 +261,9 @@ impl Memo {
         }
     }
 
-    /// Keeps an answer for candidates of any size at this place, if there is one, and forgets the
-    /// answer that was there.
-    pub(crate) fn keep_wide(&mut self, place: usize, answer: Revised)
+    /// Stores `answer` in the slot `place` for candidates of any size, if there is such a slot, in
+    /// place of the result that was there, and counts a miss.
+    pub(crate) fn keep_wide(&mut self, place: usize, answer: CacheEntry)
         ensures { (ks : List Constraint) → IsKnown ks (Some answer)
             → AreKnown ks (answers_in self.old) → AreKnown ks (answers_in self.new) }
     {
@@ -262,9 +274,9 @@ impl Memo {
     }
 }
 
-/// Keeps these answers for candidates below 4 at their places, each of which forgets the one that
-/// was there.
-fn keep_tiny(places: &mut Vec<RevisedNibbles>, answers: &[RevisedNibbles])
+/// Copies the cached results of `answers` into their slots in `places`, for candidates below 4. A
+/// later one replaces an earlier one in the same slot.
+fn keep_tiny(places: &mut Vec<NibbleEntry>, answers: &[NibbleEntry])
     ensures { (ks : List Constraint) → All (IsKnownNibbles ks) answers.now
         → All (IsKnownNibbles ks) places.old.items → All (IsKnownNibbles ks) places.new.items }
 {
@@ -276,9 +288,9 @@ fn keep_tiny(places: &mut Vec<RevisedNibbles>, answers: &[RevisedNibbles])
     }
 }
 
-/// Keeps these answers for candidates below 16 at their places, each of which forgets the answer
-/// that was there.
-fn keep_words(places: &mut Vec<RevisedWord>, answers: &[RevisedWord])
+/// Copies the cached results of `answers` into their slots in `places`, for candidates below 16. A
+/// later one replaces an earlier one in the same slot.
+fn keep_words(places: &mut Vec<WordEntry>, answers: &[WordEntry])
     ensures { (ks : List Constraint) → All (IsKnownWord ks) answers.now
         → All (IsKnownWord ks) places.old.items → All (IsKnownWord ks) places.new.items }
 {
@@ -290,9 +302,9 @@ fn keep_words(places: &mut Vec<RevisedWord>, answers: &[RevisedWord])
     }
 }
 
-/// Keeps these answers for candidates below 64 at their places, each of which forgets the answer
-/// that was there.
-fn keep_each(places: &mut Vec<Option<RevisedParts>>, answers: &[Option<RevisedParts>])
+/// Copies the cached results of `answers` into their slots in `places`, for candidates below 64. A
+/// later one replaces an earlier one in the same slot.
+fn keep_each(places: &mut Vec<Option<Set64Entry>>, answers: &[Option<Set64Entry>])
     ensures { (ks : List Constraint) → All (IsKnownParts ks) answers.now
         → All (IsKnownParts ks) places.old.items → All (IsKnownParts ks) places.new.items }
 {
@@ -306,8 +318,9 @@ fn keep_each(places: &mut Vec<Option<RevisedParts>>, answers: &[Option<RevisedPa
     }
 }
 
-/// How many places would serve, where there are so many and so many answers were not there.
-fn places_wanted(places: usize, misses: u32, most: usize) -> usize {
+/// Returns how many slots a table should have that has `places` slots, had `misses` misses, and may
+/// have at most `most` slots. It is `places` if the table should not grow.
+fn slots_wanted(places: usize, misses: u32, most: usize) -> usize {
     if places < FEWEST {
         FEWEST
     } else if places < most && misses as usize > places / 4 {
@@ -317,14 +330,15 @@ fn places_wanted(places: usize, misses: u32, most: usize) -> usize {
     }
 }
 
-/// From so many places on, candidates below 4 have places of their own.
+/// Number of slots from which on candidates below 4 enter the index of their slot unhashed. See
+/// [`slot_of_nibbles`].
 const APART: usize = 4096;
 
-/// Where among so many places, a power of two, the answer for candidates below 4 is and for the
-/// rules for which this execution stands. With none at all it is 0.
+/// Returns the slot, among `places` slots, for candidates below 4 of the rules that `execution`
+/// stands for. `places` is a power of two, or 0, for which the slot is 0.
 ///
-/// Any place would be right. Where there are enough, those of three places of a rule are apart from
-/// each other.
+/// The cache is correct with any slot. If there are at least [`APART`] slots, the candidates of a
+/// rule's first three places (12 bits) get different slots.
 #[inline]
 pub(crate) fn slot_of_nibbles(execution: u32, candidates: u16, places: usize) -> usize {
     if places < APART {
@@ -334,21 +348,21 @@ pub(crate) fn slot_of_nibbles(execution: u32, candidates: u16, places: usize) ->
     place as usize & places.saturating_sub(1)
 }
 
-/// The place, among so many places, of the answer for candidates below 16 and for the rules that
-/// this execution stands for. The number of places is a power of two; with none at all the place is
-/// 0.
+/// Returns the slot, among `places` slots, for candidates below 16 of the rules that `execution`
+/// stands for. `places` is a power of two, or 0, for which the slot is 0.
 #[inline]
 pub(crate) fn slot_of_word(execution: u32, word: u64, places: usize) -> usize {
     slot_of(execution, [word, 0, 0, 0], places)
 }
 
-/// Where among so many places, a power of two, the answer for these candidates is and for the rules
-/// for which this execution stands, by those of them that are below 64. With none at all it is 0.
+/// Returns the slot, among `places` slots, for `candidates` of the rules that `execution` stands
+/// for. Of larger candidates, only those below 64 enter the hash. `places` is a power of two, or 0,
+/// for which the slot is 0.
 ///
-/// Any place would be right.
-pub(crate) fn slot_of(execution: u32, candidates: [Part; 4], places: usize) -> usize {
+/// The cache is correct with any slot.
+pub(crate) fn slot_of(execution: u32, candidates: [Set64; 4], places: usize) -> usize {
     let [a, b, c, d] = candidates;
-    // apart where each candidate is below 10
+    // the four parts don't overlap if each candidate is below 10
     let joined = a
         ^ b.rotate_left(21)
         ^ c.rotate_left(42)
@@ -357,8 +371,8 @@ pub(crate) fn slot_of(execution: u32, candidates: [Part; 4], places: usize) -> u
     mixed(joined) as usize & places.saturating_sub(1)
 }
 
-/// As many bits as tell [`MOST_SMALL`] places apart: a product's high bits hang on all of it. Of 0
-/// they are 0.
+/// Hashes `word` to 17 bits, as many as the index of [`MAX_SMALL`] slots has. It takes the high
+/// bits of a product, since these depend on all bits of `word`. The hash of 0 is 0.
 fn mixed(word: u64) -> u64 {
     (word ^ word >> 32).wrapping_mul(0x9e37_79b9_7f4a_7c15) >> 47
 }

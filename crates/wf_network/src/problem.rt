@@ -8,7 +8,7 @@ ghost use Rattle.wf_model.specs.Problem.{IsWellFormed, problem_of};
 ghost use Rattle.wf_complex.specs.Protocol.{IsProtocol};
 ghost use Rattle.wf_model.specs.Split.{most_values};
 ghost use Rattle.wf_model.specs.Limits.{most_points};
-ghost use Rattle.wf_set.specs.Sets.{values_in};
+ghost use Rattle.wf_base.specs.Set.Sets.{values_in};
 ghost use Rattle.wf_network.specs.Problems.{AreAlike, HasTable, IsNetwork, IsRuleOf, IsWide, KeepsProcesses, constraints_in, executions_in, rule_seen};
 ghost use Rattle.wf_network.specs.Users.{AreWordsBelow, users_of};
 
@@ -17,32 +17,35 @@ use crate::users::{MarkMask, Users};
 use std::alloc::{AllocError, Global};
 use std::marker::Model;
 use std::sync::Arc;
+use wf_base::set::Mask;
 use wf_complex::{PackedExecution, Protocol};
 use wf_lane::TupleTable;
-use wf_set::Mask;
 use wf_simplex::Simplex;
 use wf_task::{Row, Task};
 
-/// So many rules before one are looked at for the same tuples.
+/// Number of preceding rules that are compared with a new one to find the same tuples.
 const NEAR: usize = 64;
 
-/// What an input simplex allows: its processes, and its tuples as a table.
+/// What a task allows at an input simplex: the processes of the simplex, and its tuples as a table.
 #[derive(Drop)]
 pub struct Rule {
     /// The input simplex.
     pub simplex: Simplex,
-    /// How many processes the simplex has.
+    /// Number of processes of the simplex.
     pub places: u8,
-    /// Which ones, ascending, and then 0.
+    /// The processes of the simplex, in ascending order, followed by zeros.
     pub processes: [u8; 4],
-    /// The tuples of the simplex. Rules with the same ones share them.
+    /// The tuples of the simplex, in the table that the kernel revises. Rules with the same tuples
+    /// may share it.
     pub table: TupleTable,
-    /// The number of a rule with the same table.
+    /// Index of a rule with the same table. It is this rule's own index if no rule shortly before
+    /// it has the same tuples.
     pub like: u32,
 }
 
 impl Rule {
-    /// The rule of a simplex with a table of its tuples, which the rule of this number has too.
+    /// Creates the rule of `simplex` with the table `table` of its tuples. `like` is the index of a
+    /// rule with the same table.
     pub(crate) fn of(simplex: Simplex, table: TupleTable, like: u32) -> Rule
         requires wide { table.width ≡ length simplex }
         ensures rule { IsRuleOf simplex table.rows result }
@@ -59,7 +62,7 @@ impl Rule {
         }
     }
 
-    /// How many processes its simplex has. It takes no memory.
+    /// Returns the number of processes of the input simplex, at most 4.
     #[inline]
     pub fn places(&self) -> u8
         requires kept { KeepsProcesses self.now }
@@ -70,7 +73,8 @@ impl Rule {
         self.places
     }
 
-    /// The process of its simplex at a place. It takes no memory.
+    /// Returns the process of the input simplex at `place`. The places are in ascending order of
+    /// the processes.
     #[inline]
     pub fn process_at(&self, place: u8) -> u8
         requires kept { KeepsProcesses self.now }
@@ -81,7 +85,7 @@ impl Rule {
     }
 }
 
-/// The processes of a simplex, ascending, and then 0.
+/// Returns the processes of `simplex` in ascending order, followed by zeros.
 fn processes(simplex: Simplex) -> [u8; 4]
     ensures long { length result ≡ 4 }
     ensures processes { (i : ℕ) → i < length simplex
@@ -94,26 +98,27 @@ fn processes(simplex: Simplex) -> [u8; 4]
     processes
 }
 
-/// The constraints of a problem as they are kept: a rule for each input simplex, the executions,
-/// and the executions of each point.
+/// The constraints of a problem: a rule for each input simplex, the executions, and the executions
+/// of each point.
 #[derive(Drop)]
 pub struct Network {
-    /// How many points there are.
+    /// Number of points.
     pub points: u32,
     /// The rule of each input simplex.
     pub rules: Vec<Rule>,
-    /// For each rule the number of an execution whose rule has the same table: the same one for
-    /// rules that share it. How many executions there are where the rule has none.
+    /// For each rule the number of an execution that stands for all rules with its table: the key
+    /// of their results in the kernel cache. It is the number of executions if there is no such
+    /// execution, and then nothing is cached for the rule.
     pub leads: Vec<u32>,
-    /// The executions, whose rules are those of their input simplices. They are shared with the
-    /// protocol complex.
+    /// The executions, each with the index of its input simplex, which is the index of its rule.
+    /// They are shared with the protocol complex.
     pub executions: Arc<Vec<PackedExecution>, Global>,
     /// The executions of each point.
     pub users: Users,
 }
 
 impl Network {
-    /// How many executions there are. It takes no memory.
+    /// Returns the number of executions.
     #[inline]
     pub fn execution_count(&self) -> usize
         ensures { result ≡ length (executions_in self.now) }
@@ -121,7 +126,7 @@ impl Network {
         self.executions.len()
     }
 
-    /// The execution of this number. It takes no memory.
+    /// Returns the execution `number`.
     #[inline]
     pub fn execution(&self, number: usize) -> PackedExecution
         requires { number < length (executions_in self.now) }
@@ -130,9 +135,9 @@ impl Network {
         self.executions[number]
     }
 
-    /// The executions in which a point stands: none is left out. It takes no memory.
+    /// Returns all executions in which `point` stands, as masks for the marks of executions.
     #[inline]
-    pub fn users_of(&self, point: u32) -> &[MarkMask]
+    pub fn executions_of(&self, point: u32) -> &[MarkMask]
         requires network { IsNetwork self.now }
         requires point { point < self.now.points }
         ensures users { result.now ≡ users_of self.now.users point }
@@ -143,14 +148,15 @@ impl Network {
     }
 }
 
-/// The constraint problem of a task after some rounds: a decision map gives each point a value, so
-/// that in each execution the values at its points are a tuple that the task allows.
+/// The constraint problem of a task after some rounds: it asks for a value for each point, so that
+/// in each execution the values at its points are a tuple that the task allows. Such values are a
+/// decision map.
 ///
-/// Points and executions have the numbers of the protocol complex. The tuples
-/// of an input simplex are kept once.
+/// Points and executions have the numbers of the protocol complex. The tuples of an input simplex
+/// are stored once, for all its executions.
 #[derive(Drop)]
 pub struct Problem {
-    // those that occur in the outputs
+    // the values that occur in the task's outputs
     values: Mask,
     network: Network,
 }
@@ -169,7 +175,12 @@ impl Model for Problem {
 }
 
 impl Problem {
-    /// The problem of a task on its protocol complex. The protocol has to be that of the task.
+    /// Builds the problem of `task` on `protocol`, which must be the protocol complex of the same
+    /// task.
+    ///
+    /// # Errors
+    ///
+    /// Returns `AllocError` if memory runs out.
     pub fn join(alloc: Global, task: &Task, protocol: &Protocol) -> Result<Problem, AllocError>
         requires built { IsProtocol task.now protocol.now.rounds protocol.now }
         ensures { IfOk result (λ problem. problem ≡ problem_of task.now protocol.now.rounds) }
@@ -191,7 +202,7 @@ impl Problem {
         })
     }
 
-    /// How many points it has. It takes no memory.
+    /// Returns the number of points.
     pub fn points(&self) -> u32
         ensures points { result ≡ self.now.points }
         ensures few { result ≤ most_points }
@@ -201,14 +212,15 @@ impl Problem {
         self.network.points
     }
 
-    /// Its values, those that occur in the outputs of the task. It takes no memory.
+    /// Returns the values that occur in the outputs of the task: the candidates of each point in
+    /// the root box.
     pub fn values(&self) -> Mask
         ensures { values_in result ≡ self.now.values }
     {
         self.values
     }
 
-    /// Its constraints as they are kept. It takes no memory.
+    /// Returns the constraints of the problem.
     pub fn network(&self) -> &Network
         ensures network { IsNetwork result.now }
         ensures points { result.now.points ≡ self.now.points }
@@ -219,7 +231,8 @@ impl Problem {
     }
 }
 
-/// The rule of each input simplex.
+/// Returns the rule of each input simplex of `task`, in the order of the simplices. A rule shares
+/// the table of a rule with the same tuples if one of the [`NEAR`] rules before it has them.
 fn rules(alloc: Global, task: &Task) -> Result<Vec<Rule>, AllocError>
     ensures rules { IfOk result (λ rules. map rule_seen rules.items ≡ task.now.delta) }
     ensures wide { IfOk result (λ rules. All IsWide rules.items) }
@@ -231,16 +244,17 @@ fn rules(alloc: Global, task: &Task) -> Result<Vec<Rule>, AllocError>
     let mut rules = Vec::with_capacity(alloc, inputs.len())?;
     for (number, simplex) in inputs.iter().enumerate() {
         let tuples = task.tuples(number as u32);
-        let like = like_of(task, &rules, *simplex, tuples);
+        let like = rule_with_table(task, &rules, *simplex, tuples);
         let table = table_of(alloc, &rules, like, *simplex, tuples)?;
         rules.push(Rule::of(*simplex, table, like))?;
     }
     Ok(rules)
 }
 
-/// The number of a rule with this table, where one of the last few has it,
-/// and else the number of the next one.
-fn like_of(task: &Task, rules: &[Rule], simplex: Simplex, tuples: &[Row]) -> u32
+/// Returns the index of a rule with as many processes as `simplex` and the tuples `tuples`, if one
+/// of the last [`NEAR`] rules has these, or else the index that the next rule will have, which is
+/// the length of `rules`.
+fn rule_with_table(task: &Task, rules: &[Rule], simplex: Simplex, tuples: &[Row]) -> u32
     requires rules { map rule_seen rules.now ≡ take (length rules.now) task.now.delta }
     requires wide { All IsWide rules.now }
     requires alike { AreAlike rules.now }
@@ -259,7 +273,8 @@ fn like_of(task: &Task, rules: &[Rule], simplex: Simplex, tuples: &[Row]) -> u32
     count as u32
 }
 
-/// The table of these tuples of a simplex: that of the rule of this number, where it is there.
+/// Returns the table of the tuples of `simplex`. It shares the table of the rule `like` if there is
+/// such a rule, and else builds a new one.
 fn table_of(
     alloc: Global,
     rules: &[Rule],

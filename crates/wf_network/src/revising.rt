@@ -1,4 +1,5 @@
-//! What the rules of executions support.
+//! Support: the candidates of an execution's points that occur in a tuple of its rule all of whose
+//! values are candidates.
 
 ghost use Rattle.std.specs.Prelude.{◌≡◌, ◌≢◌, ◌<◌, ◌%◌, ℕ, All, length, map, slice_index, IfSome, IfNone};
 ghost use Rattle.std.specs.Bool.{OnFalse, OnTrue};
@@ -7,21 +8,22 @@ ghost use Rattle.wf_network.specs.Problems.{IsNetwork, IsWide, KeepsProcesses, c
 ghost use Rattle.wf_network.specs.Revising.{AreKnown, AreWide, answers_in, found_at, left_of, nibbles_in, parts_in, wide_set, widened};
 
 use crate::memo::{
-    Memo, Revised, RevisedNibbles, RevisedParts, RevisedWord, slot_of, slot_of_nibbles,
+    CacheEntry, NibbleEntry, Set64Entry, SupportCache, WordEntry, slot_of, slot_of_nibbles,
     slot_of_word,
 };
 use crate::problem::{Network, Rule};
+use wf_base::set::set64::Set64;
+use wf_base::set::{Mask, low_set64};
 use wf_complex::PackedExecution;
-use wf_set::part::Part;
-use wf_set::{Mask, first_part};
 
-/// Parts of values below 4 are below this one.
+/// Exclusive upper bound of the bit masks of values below 4.
 const TINY_LIMIT: u64 = 16;
 
-/// Parts of values below 16 are below this one.
+/// Exclusive upper bound of the bit masks of values below 16.
 const SMALL_LIMIT: u64 = 65_536;
 
-/// The candidates of the points of an execution; past their number those of the first point.
+/// Returns the candidates of the four points of `execution`. An execution with fewer than four
+/// participants repeats its first point.
 #[inline]
 pub fn candidates_at(execution: PackedExecution, sets: &[Mask]) -> [Mask; 4]
     requires long { length execution.points ≡ 4 }
@@ -38,10 +40,10 @@ pub fn candidates_at(execution: PackedExecution, sets: &[Mask]) -> [Mask; 4]
     ]
 }
 
-/// These parts in sixteen bits, four each, the first one lowest, where each value is below 4; none
-/// where one is not.
+/// Packs the four bit masks `parts` into 16 bits, four for each, the first one lowest. Returns
+/// `None` unless all values are below 4.
 #[inline]
-pub fn in_nibbles(parts: [Part; 4]) -> Option<u16>
+pub fn pack_nibbles(parts: [Set64; 4]) -> Option<u16>
     requires { length parts ≡ 4 }
     ensures parts { IfSome result (λ nibbles. nibbles_in nibbles ≡ parts) }
     ensures none { IfNone result (All (λ part. part < TINY_LIMIT) parts → ⊥) }
@@ -53,10 +55,10 @@ pub fn in_nibbles(parts: [Part; 4]) -> Option<u16>
     }
 }
 
-/// These parts in one word, 16 bits each, the first one lowest, where each value is below 16; none
-/// where one is not.
+/// Packs the four bit masks `parts` into a word, 16 bits for each, the first one lowest. Returns
+/// `None` unless all values are below 16.
 #[inline]
-pub fn in_word(parts: [Part; 4]) -> Option<u64>
+pub fn pack_word(parts: [Set64; 4]) -> Option<u64>
     requires { length parts ≡ 4 }
     ensures parts { IfSome result (λ word. parts_in word ≡ parts) }
     ensures none { IfNone result (All (λ part. part < SMALL_LIMIT) parts → ⊥) }
@@ -68,11 +70,18 @@ pub fn in_word(parts: [Part; 4]) -> Option<u64>
     }
 }
 
-/// The values that the rule of this number supports at each place for candidates below 4, four bits
-/// each; past its places those of the first place again. Answers are kept, since many executions of
-/// a simplex have the same candidates, and have them again.
+/// Returns the values that the rule with index `rule` supports at each place for `candidates` below
+/// 4, four bits for each place. Past the places of the rule, the first place is repeated.
+///
+/// Results are cached in `memo`, since many executions of a simplex have the same candidates, and
+/// have them again and again.
 #[inline]
-pub fn supported_nibbles(rule: u32, candidates: u16, network: &Network, memo: &mut Memo) -> u16
+pub fn supported_nibbles(
+    rule: u32,
+    candidates: u16,
+    network: &Network,
+    memo: &mut SupportCache,
+) -> u16
     requires network { IsNetwork network.now }
     requires rule { rule < length network.now.rules.items }
     requires known { AreKnown (constraints_in network.now) (answers_in memo.old) }
@@ -91,14 +100,15 @@ pub fn supported_nibbles(rule: u32, candidates: u16, network: &Network, memo: &m
     revise_nibbles(rule, slot, candidates, network, memo)
 }
 
-/// Asks the rule's table what it supports for candidates below 4, and keeps the answer.
+/// Computes from the rule's table what the rule supports for `candidates` below 4, and caches the
+/// result in the slot `slot`.
 #[inline(never)]
 fn revise_nibbles(
     rule: u32,
     slot: usize,
     candidates: u16,
     network: &Network,
-    memo: &mut Memo,
+    memo: &mut SupportCache,
 ) -> u16
     requires network { IsNetwork network.now }
     requires rule { rule < length network.now.rules.items }
@@ -113,7 +123,7 @@ fn revise_nibbles(
     if (execution as usize) < network.execution_count() {
         memo.keep_nibbles(
             slot,
-            RevisedNibbles {
+            NibbleEntry {
                 execution,
                 candidates,
                 supported,
@@ -123,10 +133,11 @@ fn revise_nibbles(
     supported
 }
 
-/// The values that the rule of this number supports at each place for candidates below 16, 16 bits
-/// each; past its places those of the first place again. Answers are kept.
+/// Returns the values that the rule with index `rule` supports at each place for candidates below
+/// 16, which `word` packs, 16 bits for each place. Past the places of the rule, the first place is
+/// repeated. Results are cached in `memo`.
 #[inline]
-pub fn supported_word(rule: u32, word: u64, network: &Network, memo: &mut Memo) -> u64
+pub fn supported_word(rule: u32, word: u64, network: &Network, memo: &mut SupportCache) -> u64
     requires network { IsNetwork network.now }
     requires rule { rule < length network.now.rules.items }
     requires known { AreKnown (constraints_in network.now) (answers_in memo.old) }
@@ -145,9 +156,10 @@ pub fn supported_word(rule: u32, word: u64, network: &Network, memo: &mut Memo) 
     revise_word(rule, slot, word, network, memo)
 }
 
-/// Asks the rule's table what it supports for candidates below 16, and keeps the answer.
+/// Computes from the rule's table what the rule supports for candidates below 16, which `word`
+/// packs, and caches the result in the slot `slot`.
 #[inline(never)]
-fn revise_word(rule: u32, slot: usize, word: u64, network: &Network, memo: &mut Memo) -> u64
+fn revise_word(rule: u32, slot: usize, word: u64, network: &Network, memo: &mut SupportCache) -> u64
     requires network { IsNetwork network.now }
     requires rule { rule < length network.now.rules.items }
     requires known { AreKnown (constraints_in network.now) (answers_in memo.old) }
@@ -161,7 +173,7 @@ fn revise_word(rule: u32, slot: usize, word: u64, network: &Network, memo: &mut 
     if (execution as usize) < network.execution_count() {
         memo.keep_small(
             slot,
-            RevisedWord {
+            WordEntry {
                 execution,
                 candidates: word,
                 supported,
@@ -171,9 +183,9 @@ fn revise_word(rule: u32, slot: usize, word: u64, network: &Network, memo: &mut 
     supported
 }
 
-/// Whether each part is below the limit.
+/// Returns whether each of `parts` is below `limit`.
 #[inline]
-fn are_below(limit: u64, parts: [Part; 4]) -> bool
+fn are_below(limit: u64, parts: [Set64; 4]) -> bool
     requires { length parts ≡ 4 }
     ensures below { OnTrue result (All (λ part. part < limit) parts) }
     ensures beyond { OnFalse result (All (λ part. part < limit) parts → ⊥) }
@@ -182,8 +194,8 @@ fn are_below(limit: u64, parts: [Part; 4]) -> bool
     (a < limit) & (b < limit) & (c < limit) & (d < limit)
 }
 
-/// The parts without what is not below the limit, a power of two.
-fn cut(limit: u64, parts: [Part; 4]) -> [Part; 4]
+/// Clears in each of `parts` the bits from `limit` on, which is a power of two.
+fn cut(limit: u64, parts: [Set64; 4]) -> [Set64; 4]
     requires { 0 < limit }
     ensures { result ≡ map (λ part. part % limit) parts }
 {
@@ -191,9 +203,9 @@ fn cut(limit: u64, parts: [Part; 4]) -> [Part; 4]
     [a % limit, b % limit, c % limit, d % limit]
 }
 
-/// The parts in sixteen bits, four each.
+/// Packs four bit masks below 16 into 16 bits, four for each, the first one lowest.
 #[inline]
-fn nibbles_of(parts: [Part; 4]) -> u16
+fn nibbles_of(parts: [Set64; 4]) -> u16
     requires long { length parts ≡ 4 }
     requires below { All (λ part. part < TINY_LIMIT) parts }
     ensures { nibbles_in result ≡ parts }
@@ -202,9 +214,9 @@ fn nibbles_of(parts: [Part; 4]) -> u16
     (a + TINY_LIMIT * (b + TINY_LIMIT * (c + TINY_LIMIT * d))) as u16
 }
 
-/// The parts in one word, 16 bits each.
+/// Packs four bit masks below 65,536 into a word, 16 bits for each, the first one lowest.
 #[inline]
-fn word_of(parts: [Part; 4]) -> u64
+fn word_of(parts: [Set64; 4]) -> u64
     requires long { length parts ≡ 4 }
     requires below { All (λ part. part < SMALL_LIMIT) parts }
     ensures { parts_in result ≡ parts }
@@ -213,8 +225,8 @@ fn word_of(parts: [Part; 4]) -> u64
     a + SMALL_LIMIT * (b + SMALL_LIMIT * (c + SMALL_LIMIT * d))
 }
 
-/// The parts that are packed in sixteen bits.
-pub fn unpacked_nibbles(nibbles: u16) -> [Part; 4]
+/// Unpacks the four bit masks that [`pack_nibbles`] packed.
+pub fn unpacked_nibbles(nibbles: u16) -> [Set64; 4]
     ensures { result ≡ nibbles_in nibbles }
 {
     let all = u64::from(nibbles);
@@ -226,8 +238,8 @@ pub fn unpacked_nibbles(nibbles: u16) -> [Part; 4]
     ]
 }
 
-/// The parts that are packed in a word.
-pub fn unpacked(word: u64) -> [Part; 4]
+/// Unpacks the four bit masks that [`pack_word`] packed.
+pub fn unpacked(word: u64) -> [Set64; 4]
     ensures { result ≡ parts_in word }
 {
     [
@@ -238,14 +250,15 @@ pub fn unpacked(word: u64) -> [Part; 4]
     ]
 }
 
-/// The values that the rule of this number supports at each place for some candidates below 64;
-/// none where those are all that the candidates have. These answers are kept too.
+/// Returns the values that the rule with index `rule` supports at each place for `candidates` below
+/// 64, or `None` if it supports all of them. Past the places of the rule, the first place is
+/// repeated. Results are cached in `memo`.
 pub fn supported_narrow(
     rule: u32,
-    candidates: [Part; 4],
+    candidates: [Set64; 4],
     network: &Network,
-    memo: &mut Memo,
-) -> Option<[Part; 4]>
+    memo: &mut SupportCache,
+) -> Option<[Set64; 4]>
     requires network { IsNetwork network.now }
     requires rule { rule < length network.now.rules.items }
     requires long { length candidates ≡ 4 }
@@ -267,15 +280,15 @@ pub fn supported_narrow(
     revise_parts(rule, slot, candidates, network, memo)
 }
 
-/// Asks the rule's table what it supports for candidates below 64, and keeps the answer; none if
-/// nothing is lost.
+/// Computes from the rule's table what the rule supports for `candidates` below 64, and caches the
+/// result in the slot `slot`. Returns `None` if all candidates are supported.
 fn revise_parts(
     rule: u32,
     slot: usize,
-    candidates: [Part; 4],
+    candidates: [Set64; 4],
     network: &Network,
-    memo: &mut Memo,
-) -> Option<[Part; 4]>
+    memo: &mut SupportCache,
+) -> Option<[Set64; 4]>
     requires network { IsNetwork network.now }
     requires rule { rule < length network.now.rules.items }
     requires long { length candidates ≡ 4 }
@@ -290,7 +303,7 @@ fn revise_parts(
     if (execution as usize) < network.execution_count() {
         memo.keep_narrow(
             slot,
-            RevisedParts {
+            Set64Entry {
                 execution,
                 candidates,
                 supported,
@@ -300,9 +313,9 @@ fn revise_parts(
     changed(candidates, supported)
 }
 
-/// The values that a rule supports at each place for some candidates below 64; past its places
-/// those of the first place, whose point stands there again.
-fn revised(rule: &Rule, candidates: [Part; 4]) -> [Part; 4]
+/// Computes from the table of `rule` the values that it supports at each place for `candidates`
+/// below 64. Past the places of the rule, the first place is repeated.
+fn revised(rule: &Rule, candidates: [Set64; 4]) -> [Set64; 4]
     requires kept { KeepsProcesses rule.now }
     requires wide { IsWide rule.now }
     requires long { length candidates ≡ 4 }
@@ -313,8 +326,8 @@ fn revised(rule: &Rule, candidates: [Part; 4]) -> [Part; 4]
     up_to(rule.places(), first_parts(masks))
 }
 
-/// The other parts, where they are not the first ones.
-fn changed(parts: [Part; 4], others: [Part; 4]) -> Option<[Part; 4]>
+/// Returns `others` if they differ from `parts`.
+fn changed(parts: [Set64; 4], others: [Set64; 4]) -> Option<[Set64; 4]>
     ensures parts { left_of parts result ≡ others }
     ensures long { IfSome result (λ parts. length parts ≡ 4) }
 {
@@ -325,17 +338,17 @@ fn changed(parts: [Part; 4], others: [Part; 4]) -> Option<[Part; 4]>
     Some([a, b, c, d])
 }
 
-/// The values below 64 of each set.
-fn first_parts(sets: [Mask; 4]) -> [Part; 4]
+/// Returns the values below 64 of each set.
+fn first_parts(sets: [Mask; 4]) -> [Set64; 4]
     ensures parts { AreFirstParts result sets }
     ensures long { length result ≡ 4 }
 {
     let [a, b, c, d] = sets;
-    [first_part(a), first_part(b), first_part(c), first_part(d)]
+    [low_set64(a), low_set64(b), low_set64(c), low_set64(d)]
 }
 
-/// The parts before a place, and from there on the first one.
-fn up_to(place: u8, parts: [Part; 4]) -> [Part; 4]
+/// Returns `parts` with the first one repeated from `place` on.
+fn up_to(place: u8, parts: [Set64; 4]) -> [Set64; 4]
     requires long { length parts ≡ 4 }
     ensures firsts { (i : ℕ) → i < place → slice_index result i ≡ slice_index parts i }
     ensures long { length result ≡ 4 }
@@ -349,24 +362,24 @@ fn up_to(place: u8, parts: [Part; 4]) -> [Part; 4]
     ]
 }
 
-/// The part, or another one where the test is false.
-fn part_if(test: bool, part: Part, other: Part) -> Part
+/// Returns `part` if `test` is true, or else `other`.
+fn part_if(test: bool, part: Set64, other: Set64) -> Set64
     ensures { OnTrue test (result ≡ part) }
 {
     if test { part } else { other }
 }
 
-/// The sets of these parts.
-fn widened(parts: [Part; 4]) -> [Mask; 4]
+/// Converts sets of values below 64 to sets of four words each.
+fn widened(parts: [Set64; 4]) -> [Mask; 4]
     ensures { result ≡ widened parts }
 {
     let [a, b, c, d] = parts;
     [[a, 0, 0, 0], [b, 0, 0, 0], [c, 0, 0, 0], [d, 0, 0, 0]]
 }
 
-/// The parts of these sets, where each value is below 64.
+/// Converts the four sets to one machine word each. Returns `None` unless all values are below 64.
 #[inline]
-pub fn narrowed(sets: [Mask; 4]) -> Option<[Part; 4]>
+pub fn narrowed(sets: [Mask; 4]) -> Option<[Set64; 4]>
     ensures parts { IfSome result (λ parts. widened parts ≡ sets) }
     ensures none { IfNone result (AreWide sets) }
     ensures long { IfSome result (λ parts. length parts ≡ 4) }
@@ -379,7 +392,7 @@ pub fn narrowed(sets: [Mask; 4]) -> Option<[Part; 4]>
     }
 }
 
-/// Whether the words past the first are 0.
+/// Returns whether all values of `set` are below 64.
 fn is_low(set: Mask) -> bool
     ensures low { OnTrue result (set ≡ wide_set (slice_index set 0)) }
     ensures wide { OnFalse result ((part : ℕ) → wide_set part ≢ set) }
@@ -388,13 +401,14 @@ fn is_low(set: Mask) -> bool
     (b == 0) & (c == 0) & (d == 0)
 }
 
-/// The values that the rule of this number supports at each place for some
-/// candidates, of which one is 64 or more.
+/// Returns the values that the rule with index `rule` supports at each place for `candidates`, of
+/// which one is 64 or more. Past the places of the rule the sets are empty. Results are cached in
+/// `memo`.
 pub fn supported_sets(
     rule: u32,
     candidates: [Mask; 4],
     network: &Network,
-    memo: &mut Memo,
+    memo: &mut SupportCache,
 ) -> [Mask; 4]
     requires network { IsNetwork network.now }
     requires rule { rule < length network.now.rules.items }
@@ -416,7 +430,7 @@ pub fn supported_sets(
     if (execution as usize) < network.execution_count() {
         memo.keep_wide(
             slot,
-            Revised {
+            CacheEntry {
                 execution,
                 candidates,
                 supported,

@@ -10,8 +10,8 @@ use Rattle.wf_model.specs.Closing.{Trace, canonical}
 use Rattle.wf_model.specs.Split.{split}
 use Rattle.wf_model.specs.Outline.{Item, outline, boxes_left_out}
 use Rattle.wf_model.specs.Laws.{HasCanonicalLines, HasCanonicalMap, IsBoxOf, IsClosedBranch, LeadToMap}
-use Rattle.wf_lines.specs.declared.line.Line.{Line}
-use Rattle.wf_lines.specs.Lines.{line_of}
+use Rattle.wf_base.specs.declared.lines.line.Line.{Line}
+use Rattle.wf_base.specs.Lines.Lines.{line_of}
 use Rattle.wf_search.specs.Cover.{LeadsToMapInRoot}
 use Rattle.wf_search.specs.declared.searching.Found.{Found}
 use Rattle.wf_search.specs.declared.searching.Found.TheVariants as found

@@ -10,12 +10,12 @@ use Rattle.wf_core.specs.Count.{times}
 use Rattle.wf_core.proofs.Lemmas.{times-append, times_other, times-Contains}
 use Rattle.wf_board.specs.Desk.{BoardId, Desk, fresh_desk, settled, posted, searched, is_cut}
 use Rattle.wf_box.specs.Boxes.{ServeFor}
-use Rattle.wf_lines.specs.declared.line.Line.{Line}
+use Rattle.wf_base.specs.declared.lines.line.Line.{Line}
 use Rattle.wf_pool.specs.declared.answer.KeptLines.{KeptLines}
 use Rattle.wf_pool.specs.declared.worker.Finds.{Finds}
 use Rattle.wf_pool.specs.declared.worker.Worker.{Worker}
-use Rattle.wf_pool.specs.declared.worker.MapAt.{MapAt}
-use Rattle.wf_pool.specs.declared.worker.LinesAt.{LinesAt}
+use Rattle.wf_pool.specs.declared.worker.BranchMap.{BranchMap}
+use Rattle.wf_pool.specs.declared.worker.BranchLines.{BranchLines}
 use Rattle.wf_pool.specs.Branches.{has_map, IsMapAt, AreLinesAt}
 use Rattle.wf_pool.specs.Work.{IsHonest, IsMapFound, IsSeat, IsFresh, HasLooked, map_branches}
 use Rattle.wf_pool.proofs.Branches.{map_is, lines_are}
@@ -43,7 +43,7 @@ looked_honest p kept d e f look h =
     })
 
 -- a branch is posted, which is the least one: its map is kept in the place of any other
-pub least_posted : (p : Problem) (kept : KeptLines) (d : Desk) (f : Finds) (i : ℕ) (m : MapAt)
+pub least_posted : (p : Problem) (kept : KeptLines) (d : Desk) (f : Finds) (i : ℕ) (m : BranchMap)
     → IsHonest p kept d f → IsMapAt p kept m.branch m.map.items m.lines.items → m.branch ≡ i
     → times i (settled d) ≡ 0 → (i ≤ d.seen) × All (λ x. i ≤ x) d.posted
     → IsHonest p kept (posted d i i) (record f { map = Some m })
@@ -83,7 +83,7 @@ later_posted p kept d f i l m ls h found above low = record {
 }
 
 -- a branch is refuted, and its lines are kept
-pub kept_refuted : (p : Problem) (kept : KeptLines) (d : Desk) (f g : Finds) (i : ℕ) (l : LinesAt)
+pub kept_refuted : (p : Problem) (kept : KeptLines) (d : Desk) (f g : Finds) (i : ℕ) (l : BranchLines)
     → IsHonest p kept d f → AreLinesAt p kept l.branch l.lines.items → l.branch ≡ i
     → g.map ≡ f.map → g.lines.items ≡ f.lines.items ++ l ∷ []
     → IsHonest p kept (searched d i) g
@@ -154,7 +154,7 @@ fresh_is p kept b w seat none empty serve =
       refl,
     )
 
-filtered_times : (i b : ℕ) (ls : List LinesAt) → i < b → times i (map (λ l. l.branch) (filter (λ l. nat_lt l.branch b) ls)) ≡ times i (map (λ l. l.branch) ls)
+filtered_times : (i b : ℕ) (ls : List BranchLines) → i < b → times i (map (λ l. l.branch) (filter (λ l. nat_lt l.branch b) ls)) ≡ times i (map (λ l. l.branch) ls)
 filtered_times i b [] low = refl
 filtered_times i b (l ∷ ls) low =
     let rest = filtered_times i b ls low in

@@ -11,8 +11,8 @@ use Rattle.wf_model.specs.Laws.{HasCanonicalLines, IsLeastIn, IsClosedBranch}
 use Rattle.wf_model.proofs.Lemmas.{canonical_none_refutes, none_refutes, canonical_least, root_is_box, first_least, one_least, split_covers, split_closed, filled_canonical}
 use Rattle.wf_core.specs.declared.event.Account.{Account}
 use Rattle.wf_pool.specs.Answers.{HasAccountOfMap, HasAccountOfNone}
-use Rattle.wf_lines.specs.declared.line.Line.{Line}
-use Rattle.wf_lines.specs.Lines.{line_of}
+use Rattle.wf_base.specs.declared.lines.line.Line.{Line}
+use Rattle.wf_base.specs.Lines.Lines.{line_of}
 use Rattle.wf_search.specs.Cover.{IsCanonicalInRoot}
 use Rattle.wf_pool.specs.declared.answer.KeptLines.{KeptLines}
 use Rattle.wf_pool.specs.declared.answer.KeptLines.TheVariants as keep

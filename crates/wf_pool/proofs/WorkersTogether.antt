@@ -11,7 +11,7 @@ use Rattle.wf_board.specs.Desk.{BoardId, Desk, gathered, all_posted, all_refuted
 use Rattle.wf_pool.specs.declared.worker.Worker.{Worker}
 use Rattle.wf_pool.specs.declared.answer.AllFinds.{AllFinds}
 use Rattle.wf_pool.specs.declared.answer.KeptLines.{KeptLines}
-use Rattle.wf_pool.specs.declared.worker.MapAt.{MapAt}
+use Rattle.wf_pool.specs.declared.worker.BranchMap.{BranchMap}
 use Rattle.wf_pool.specs.Branches.{has_map, NoneBelow}
 use Rattle.wf_pool.specs.Work.{AreLinesFound, AreWorkers, IsMapFound, IsWorker, times_settled, map_branches, lines_branches}
 use Rattle.wf_core.specs.declared.event.Account.{Account}
@@ -49,7 +49,7 @@ times_in-map f g x (w ∷ ws) = ap (λ n. times x (f (g w)) + n) (times_in-map f
 abbrev pub seats_of : List Worker → List Desk
 seats_of ws = map (λ w. w.seat) ws
 
-abbrev pub maps_of : List Worker → List (Option MapAt)
+abbrev pub maps_of : List Worker → List (Option BranchMap)
 maps_of ws = map (λ w. w.finds.map) ws
 
 all_of : (f : Desk → List ℕ) (g : List Desk → List ℕ) → g [] ≡ [] → ((d : Desk) (ds : List Desk) → g (d ∷ ds) ≡ g ds ++ f d) → (P : ℕ → Type 0) (ds : List Desk) → All (λ d. All P (f d)) ds → All P (g ds)

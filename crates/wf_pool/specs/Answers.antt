@@ -6,7 +6,7 @@ use Rattle.wf_model.specs.Closing.{canonical}
 use Rattle.wf_model.specs.Split.{split}
 use Rattle.wf_model.specs.Laws.{LiesAt}
 use Rattle.wf_core.specs.declared.event.Account.{Account}
-use Rattle.wf_lines.specs.Lines.{line_of}
+use Rattle.wf_base.specs.Lines.Lines.{line_of}
 use Rattle.wf_pool.specs.declared.answer.Answer.{Answer}
 use Rattle.wf_pool.specs.declared.answer.Answer.TheVariants as answer
 use Rattle.wf_pool.specs.declared.answer.KeptLines.{KeptLines}

@@ -8,8 +8,8 @@ use Rattle.wf_model.specs.Closing.{canonical}
 use Rattle.wf_model.specs.Split.{split}
 use Rattle.wf_model.specs.Outline.{Item, outline, boxes_left_out}
 use Rattle.wf_model.specs.Laws.{HasCanonicalMap, IsBoxOf}
-use Rattle.wf_lines.specs.declared.line.Line.{Line}
-use Rattle.wf_lines.specs.Lines.{line_of}
+use Rattle.wf_base.specs.declared.lines.line.Line.{Line}
+use Rattle.wf_base.specs.Lines.Lines.{line_of}
 use Rattle.wf_pool.specs.declared.answer.KeptLines.{KeptLines}
 use Rattle.wf_pool.specs.declared.answer.KeptLines.TheVariants as keep
 

@@ -10,24 +10,24 @@ use Rattle.wf_search.specs.declared.searching.Found.{Found}
 use Rattle.wf_search.specs.declared.searching.Found.TheVariants as found
 use Rattle.wf_pool.specs.declared.answer.KeptLines.{KeptLines}
 use Rattle.wf_pool.specs.declared.crew.CrewMembers.{CrewMembers}
-use Rattle.wf_pool.specs.declared.worker.MapAt.{MapAt}
-use Rattle.wf_pool.specs.declared.worker.LinesAt.{LinesAt}
+use Rattle.wf_pool.specs.declared.worker.BranchMap.{BranchMap}
+use Rattle.wf_pool.specs.declared.worker.BranchLines.{BranchLines}
 use Rattle.wf_pool.specs.declared.worker.Finds.{Finds}
 use Rattle.wf_pool.specs.declared.worker.Worker.{Worker}
 use Rattle.wf_pool.specs.Branches.{has_map, IsCoverOf, IsMapAt, IsMapOf, AreLinesAt, AreLinesOf, LeadInBox}
 
 -- the branches whose map, or whose lines, are kept
-abbrev pub map_branches : Option MapAt → List ℕ
+abbrev pub map_branches : Option BranchMap → List ℕ
 map_branches m = map (λ k. k.branch) (option_to_list m)
 
-abbrev pub lines_branches : {A : Type 0} → Vec LinesAt A → List ℕ
+abbrev pub lines_branches : {A : Type 0} → Vec BranchLines A → List ℕ
 lines_branches ls = map (λ l. l.branch) ls.items
 
 -- a map, if there is one, or lines, which are what a search of their branch finds
-abbrev pub IsMapFound : Problem → KeptLines → Option MapAt → Type 0
+abbrev pub IsMapFound : Problem → KeptLines → Option BranchMap → Type 0
 IsMapFound p kept m = IfSome m (λ k. IsMapAt p kept k.branch k.map.items k.lines.items)
 
-abbrev pub AreLinesFound : {A : Type 0} → Problem → KeptLines → Vec LinesAt A → Type 0
+abbrev pub AreLinesFound : {A : Type 0} → Problem → KeptLines → Vec BranchLines A → Type 0
 AreLinesFound p kept ls = All (λ l. AreLinesAt p kept l.branch l.lines.items) ls.items
 
 -- what is kept is what a search of the branch finds

@@ -1,33 +1,21 @@
 //! Workers that search the branches of a problem, and the answer that they find together.
 //!
-//! [`solve_one`] searches the branches in order, in this thread. [`solve`] has workers share them
-//! out; each worker has a seat at the board, where it sees the least branch that has a map so far,
-//! and a share of the handout. [`solve_root`] searches the whole problem at once, if nobody asks
-//! for an account of branches. All three answer what the canonical search of the whole problem
-//! finds: its least map, or none; and its lines, if such lines are kept. [`solve_within`] is
-//! [`solve_root`] for so many turns. [`solve_branch`] searches one branch alone.
+//! [`solve`] shares out the branches to workers; begin reading here. Each worker has a seat at the
+//! board, where it sees the least branch that has a map so far, and a share of the handout.
+//! [`solve_one`] searches the branches in order, in the calling thread. [`solve_root`] searches the
+//! whole problem at once, without an account of branches, and [`solve_within`] does so up to a
+//! number of turns. All of them return the answer of the canonical search of the whole problem: its
+//! least map, or that there is none, with those of its lines that [`KeptLines`] selects.
+//! [`solve_branch`] searches one branch only. A [`Gate`] observes the workers.
 //!
-//! - `gate`: what a caller may watch and hold of the workers.
-//! - `worker`: a seat, what the worker keeps of what it found, and what
-//!   closing found out on the way.
-//! - `site`: what all workers share.
-//! - `finding`: what is asked about a problem, and what a search of a box finds.
-//! - `watch`: a worker at a branch; it looks at the board before each turn of its search.
-//! - `crew`: all workers, each in a thread of its own if one can be had.
-//! - `answer`: what the workers kept, brought together by branch.
-//! - `solving`: from a problem to its answer and the account of the work.
+//! A worker keeps at most one map, that of the least branch that it posted, and the lines of the
+//! branches that it refuted, as long as it has seen no lower branch posted. Other lines are freed
+//! as soon as their branch is searched; if no lines are kept, those of a turn are freed before the
+//! next one. At the end the kept lists are moved to the indices of their branches, and copied only
+//! once, into the lines of the root.
 //!
-//! A worker keeps one map at most, that of the least branch that it posted, and the lines of the
-//! branches that it refuted, as long as it has seen no lower branch posted. Lines that aren't kept
-//! for the answer are given back as soon as their branch is searched. If none is kept, those of a
-//! turn are dropped before the next one, so that no memory grows with the length of a search. In
-//! the end the others are moved to their places in a list of the branches, or of those up to the
-//! first with a map. None is copied but into the lines of the root. This takes one list for each
-//! branch, and a step for each list of lines.
-//!
-//! Each worker, the only one too, begins a branch with what closing found out in its earlier ones.
-//! Workers share none of it, and it is moved with its worker and never copied. It saves time alone:
-//! whatever it holds, the answer is the same.
+//! Each worker begins a branch with the kernel cache of its earlier branches. Workers don't share
+//! caches. A cache only saves time: the answer is the same whatever it holds.
 #![tactic(auto)]
 
 mod answer;
@@ -35,13 +23,13 @@ mod crew;
 mod finding;
 mod gate;
 mod laws;
-mod site;
+mod shared;
 mod solving;
 mod watch;
 mod worker;
 
 pub use answer::{Answer, BranchAnswer, KeptLines};
-pub use finding::Inquiry;
+pub use finding::SearchSpec;
 pub use gate::{Gate, Moment, Open};
 pub use laws::{a_problem_has_one_answer, searches_have_most_workers};
 pub use solving::{

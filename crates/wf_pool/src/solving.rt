@@ -1,4 +1,4 @@
-//! The answer of all workers together.
+//! Solves a problem in one thread or several, and assembles the answer from those of its branches.
 
 ghost use Rattle.std.specs.Prelude.{◌≡◌, ◌+◌, ◌*◌, ◌^◌, ◌<◌, ◌≤◌, map, length, All, IfNone, IfOk, IfSome, OnOk};
 ghost use Rattle.wf_model.specs.Limits.{most_workers};
@@ -14,70 +14,77 @@ ghost use Rattle.wf_pool.specs.Together.{Tells};
 ghost use Rattle.wf_pool.specs.Answers.{IsAnswer, IsAnswerAt, HasAccount, HasBranchAnswer, IsInOrder};
 ghost use Rattle.wf_pool.specs.Turns.{AskedWithin, TakesMore};
 
-use crate::answer::{AllFinds, Answer, BranchAnswer, KeptLines, apart, in_order, map_of};
+use crate::answer::{AllFinds, Answer, BranchAnswer, KeptLines, in_order, map_of, split_seats};
 use crate::crew::{CrewMembers, crew};
-use crate::finding::{Inquiry, search_box};
+use crate::finding::{SearchSpec, search_box};
 use crate::gate::{Gate, Moment, Open};
-use crate::site::SharedState;
-use crate::watch::{TellingStop, TurnLimit, settle};
+use crate::shared::SharedState;
+use crate::watch::{ObservedStop, TurnLimit, settle};
 use crate::worker::{Finds, Worker};
 use std::alloc::{AllocError, Global};
 use std::thread::Threads;
+use wf_base::lines::Lines;
 use wf_board::{Board, BoardSeat};
-use wf_box::{Box0, KernelCache, Problem};
+use wf_box::{Box0, BoxCache, Problem};
 use wf_core::Account;
 use wf_handout::Handout;
-use wf_lines::Lines;
 use wf_search::{Cover, Found, Never, Stop, split_with};
 
-/// The most workers that [`solve`] takes.
+/// Largest number of workers that [`solve`] accepts.
 pub const MAX_WORKERS: u32 = 64;
 
-/// The answer about a problem that several workers find together, and the
-/// account of their work. It is the answer of [`solve_one`], in any schedule:
-/// the same map, or none, with the same lines, as far as they are kept. The
-/// lines of a branch that aren't kept are given back as soon as it is searched.
+/// Solves the problem of `spec` with up to `workers` workers, from 1 to [`MAX_WORKERS`], and
+/// returns the answer with the account of their work. It is the answer of [`solve_one`] in any
+/// schedule: the same map, or none, with the same lines, as far as they are kept.
 ///
-/// No more workers are used than there are branches, and this thread is always the first of them.
-/// Each other one has a thread of its own, unless the gate forbids it or none can be had: then this
-/// thread does that worker's work after its own. The handout `H` says who searches which branch,
-/// and what it leaves is searched by this thread at the end.
+/// No more workers are used than there are branches. The calling thread does the work of the first
+/// one. Each other worker has a thread of its own, unless `gate` forbids it or no thread can be
+/// had: then the calling thread does that worker's work after its own. The handout `H` decides who
+/// searches which branch, and the calling thread searches at the end the branches that no worker
+/// has taken. Lines that are not kept are freed as soon as their branch is searched.
 ///
-/// Refused out of memory alone. A worker that is refused memory stops, and the others go on; the
-/// refusal comes once all are joined.
+/// # Errors
+///
+/// Returns `AllocError` if memory runs out. A worker that gets no memory stops, and the others go
+/// on; the error is returned once all have ended.
 pub fn solve<R: Threads + Sync, H: Handout, G: Gate>(
     rt: &R,
     alloc: Global,
-    inquiry: Inquiry,
+    spec: SearchSpec,
     workers: u32,
     gate: &G,
 ) -> Result<(Answer, Account), AllocError>
     requires { (0 < workers) × (workers ≤ most_workers) }
-    ensures answer { let q = inquiry.entry in IfOk result (λ r. IsAnswer q.problem.now q.kept r.0) }
-    ensures account { IfOk result (λ r. HasAccount inquiry.entry.problem.now r.0 r.1) }
+    ensures answer { let q = spec.entry in IfOk result (λ r. IsAnswer q.problem.now q.kept r.0) }
+    ensures account { IfOk result (λ r. HasAccount spec.entry.problem.now r.0 r.1) }
 {
-    let mut answers = KernelCache::new(alloc);
-    let cover = branches_of(alloc, inquiry.problem, &mut answers)?;
+    let mut answers = BoxCache::new(alloc);
+    let cover = branches_of(alloc, spec.problem, &mut answers)?;
     let branches = cover.branches();
     let used = workers.min(branches).max(1);
     gate.branches(branches);
     let (board, seats) = Board::make(alloc, branches, used)?;
-    let site = SharedState {
-        inquiry,
+    let shared = SharedState {
+        spec,
         cover: &cover,
         board: &board,
         gate,
     };
-    let workers = search_all::<R, H, G>(rt, alloc, site, seats)?;
-    let (account, finds) = finish(alloc, inquiry, board, workers)?;
-    let answer = answer_of(alloc, inquiry, &cover, finds, account)?;
+    let workers = search_all::<R, H, G>(rt, alloc, shared, seats)?;
+    let (account, finds) = finish(alloc, spec, board, workers)?;
+    let answer = answer_of(alloc, spec, &cover, finds, account)?;
     Ok((answer, account))
 }
 
-/// The answer about a problem, and the account of the search: the branches in order, up to the
-/// first with a map, whose map is the least of all. The lines that are kept are those of these
-/// branches in their places among the lines of the root, and the others are given back as soon as
-/// their branch is searched. It starts no thread, and returns. Refused out of memory alone.
+/// Solves `problem` in the calling thread, and returns the answer with the account of the search.
+/// It searches the branches in order, up to the first with a map, whose map is the least of all.
+///
+/// The lines of the answer are those of the searched branches, at their places among the lines of
+/// the root. Lines that are not kept are freed as soon as their branch is searched.
+///
+/// # Errors
+///
+/// Returns `AllocError` if memory runs out.
 pub fn solve_one(
     alloc: Global,
     problem: &Problem,
@@ -90,8 +97,12 @@ pub fn solve_one(
     solve_one_watched(alloc, problem, kept, &Open)
 }
 
-/// The answer and the account of [`solve_one`]. The gate is told of the search, which is that of
+/// Solves `problem` like [`solve_one`]. The observer `gate` is called for the search as that of
 /// worker 0.
+///
+/// # Errors
+///
+/// Returns `AllocError` if memory runs out.
 pub fn solve_one_watched<G: Gate>(
     alloc: Global,
     problem: &Problem,
@@ -102,15 +113,15 @@ pub fn solve_one_watched<G: Gate>(
     ensures account { IfOk result (λ r. HasAccount problem.now r.0 r.1) }
     ensures in_order { IfOk result (λ r. IsInOrder r.0 r.1) }
 {
-    let inquiry = Inquiry { problem, kept };
-    let mut answers = KernelCache::new(alloc);
+    let spec = SearchSpec { problem, kept };
+    let mut answers = BoxCache::new(alloc);
     let cover = branches_of(alloc, problem, &mut answers)?;
     let branches = cover.branches();
     gate.branches(branches);
     let mut lists = Vec::with_capacity(alloc, branches as usize)?;
     for branch in 0..branches {
-        let told = TellingStop { gate, branch };
-        match search_whole(alloc, inquiry, &cover, told, &mut answers)? {
+        let told = ObservedStop { gate, branch };
+        match search_whole(alloc, spec, &cover, told, &mut answers)? {
             Answer::Map(map, own) => {
                 let account = Account {
                     branches,
@@ -118,13 +129,13 @@ pub fn solve_one_watched<G: Gate>(
                     searched: branch + 1,
                     cut: branches - branch - 1,
                 };
-                let lines = lines_to_map(alloc, inquiry, &cover, lists, own)?;
+                let lines = lines_to_map(alloc, spec, &cover, lists, own)?;
                 return Ok((Answer::Map(map, lines), account));
             }
             Answer::Nothing(lines) => lists.push(lines)?,
         }
     }
-    let lines = lines_of_none(alloc, inquiry, &cover, lists)?;
+    let lines = lines_of_none(alloc, spec, &cover, lists)?;
     let account = Account {
         branches,
         least: branches,
@@ -134,21 +145,27 @@ pub fn solve_one_watched<G: Gate>(
     Ok((Answer::Nothing(lines), account))
 }
 
-/// The answer about a problem by one search of its root, which is not cut into branches: what
-/// [`solve_one`] answers, without an account. It starts no thread, and returns. Refused out of
-/// memory alone.
+/// Solves `problem` in the calling thread by one search of its root, which is not cut into
+/// branches. Returns the answer of [`solve_one`], without an account.
+///
+/// # Errors
+///
+/// Returns `AllocError` if memory runs out.
 pub fn solve_root(alloc: Global, problem: &Problem, kept: KeptLines) -> Result<Answer, AllocError>
     ensures { IfOk result (IsAnswer problem.now kept) }
 {
-    match search_root(alloc, Inquiry { problem, kept }, &mut Never)? {
+    match search_root(alloc, SearchSpec { problem, kept }, &mut Never)? {
         Some(answer) => Ok(answer),
         None => unreachable!(),
     }
 }
 
-/// The answer of [`solve_root`], if its search takes so many turns at most, and else none: the
-/// search is dropped then. A turn closes one box. It starts no thread, and returns. Refused out of
-/// memory alone.
+/// Solves `problem` like [`solve_root`], if the search takes at most `turns` turns. Returns `None`
+/// if it takes more. A turn closes one box.
+///
+/// # Errors
+///
+/// Returns `AllocError` if memory runs out.
 pub fn solve_within(
     alloc: Global,
     problem: &Problem,
@@ -158,37 +175,42 @@ pub fn solve_within(
     ensures answer { IfOk result (λ found. IfSome found (IsAnswer problem.now kept)) }
     ensures none { IfOk result (λ found. IfNone found (TakesMore problem.now turns)) }
 {
-    let inquiry = Inquiry { problem, kept };
+    let spec = SearchSpec { problem, kept };
     let mut limit = TurnLimit::of(turns);
-    search_root(alloc, inquiry, &mut limit)
+    search_root(alloc, spec, &mut limit)
 }
 
-/// The answer about a problem by one search of its root, or none where that is stopped.
+/// Solves the problem of `spec` by one search of its root. Returns `None` if `stop` ends the
+/// search.
 fn search_root<S: Stop>(
     alloc: Global,
-    inquiry: Inquiry,
+    spec: SearchSpec,
     stop: &mut S,
 ) -> Result<Option<Answer>, AllocError>
-    ensures answer { let q = inquiry.entry in
+    ensures answer { let q = spec.entry in
         IfOk result (λ found. IfSome found (IsAnswer q.problem.now q.kept)) }
-    ensures asked { let p = inquiry.entry.problem.now in OnOk result
+    ensures asked { let p = spec.entry.problem.now in OnOk result
         (AskedWithin p (root p) (λ n. S.asked n stop.old stop.new)) }
     ensures stopped { IfOk result (λ found. IfNone found (S.is_stopped stop.new)) }
 {
-    let root = Box0::root(alloc, inquiry.problem)?;
-    let mut answers = KernelCache::new(alloc);
-    match search_box(alloc, inquiry, root, stop, &mut answers)? {
+    let root = Box0::root(alloc, spec.problem)?;
+    let mut answers = BoxCache::new(alloc);
+    match search_box(alloc, spec, root, stop, &mut answers)? {
         Found::Map(map, lines) => Ok(Some(Answer::Map(map, lines))),
         Found::Refuted(lines) => Ok(Some(Answer::Nothing(lines))),
         Found::Stopped => Ok(None),
     }
 }
 
-/// What the branch of this number has, from 0: the least of its decision maps, or none. No other
-/// branch is searched, so a map in an earlier one may be smaller. It starts no thread, and returns.
+/// Searches the branch `branch`, numbered from 0, for its least decision map, in the calling
+/// thread. No other branch is searched, so an earlier one may have a smaller map.
 ///
-/// The gate is told that there is one branch to search, and then of its search, which is that of
-/// worker 0. Refused out of memory alone.
+/// The observer `gate` is told that there is one branch to search, and is then called for the
+/// search as that of worker 0.
+///
+/// # Errors
+///
+/// Returns `AllocError` if memory runs out.
 pub fn solve_branch<G: Gate>(
     alloc: Global,
     problem: &Problem,
@@ -198,54 +220,56 @@ pub fn solve_branch<G: Gate>(
 ) -> Result<BranchAnswer, AllocError>
     ensures { IfOk result (HasBranchAnswer problem.now kept branch) }
 {
-    let mut answers = KernelCache::new(alloc);
+    let mut answers = BoxCache::new(alloc);
     let cover = branches_of(alloc, problem, &mut answers)?;
     let branches = cover.branches();
     if branch >= branches {
         return Ok(BranchAnswer::Missing(branches));
     }
     gate.branches(1);
-    let inquiry = Inquiry { problem, kept };
-    let told = TellingStop { gate, branch };
-    let answer = search_whole(alloc, inquiry, &cover, told, &mut answers)?;
+    let spec = SearchSpec { problem, kept };
+    let told = ObservedStop { gate, branch };
+    let answer = search_whole(alloc, spec, &cover, told, &mut answers)?;
     Ok(BranchAnswer::Answered(answer, branches))
 }
 
-/// The branches of a problem, and it leaves what closing found out for their searches.
+/// Splits the root of `problem` into branches. The results of the kernel are added to the cache
+/// `answers`, for the searches of the branches.
 fn branches_of(
     alloc: Global,
     problem: &Problem,
-    answers: &mut KernelCache,
+    answers: &mut BoxCache,
 ) -> Result<Cover, AllocError>
     requires { ServeFor problem.now answers.old }
     ensures cover { IfOk result (IsCoverOf problem.now) }
     ensures answers { OnOk result (ServeFor problem.now answers.new) }
 {
-    // for the proof alone, which reads what holds of every problem
+    // only for the proof: this call makes the invariant of every problem known
     let _points = problem.points();
     split_with(alloc, problem, answers)
 }
 
-/// What a branch has, by a search that a gate is told of, with those of its lines that are kept. It
-/// goes by what closing found out in earlier branches, and leaves what is known then.
+/// Searches the branch `told.branch` to its end, and notifies the observer `told.gate` when it
+/// begins and ends. Keeps the lines that `spec` asks for. Uses the kernel cache `answers`, and
+/// adds new results to it.
 fn search_whole<G: Gate>(
     alloc: Global,
-    inquiry: Inquiry,
+    spec: SearchSpec,
     cover: &Cover,
-    told: TellingStop<G>,
-    answers: &mut KernelCache,
+    told: ObservedStop<G>,
+    answers: &mut BoxCache,
 ) -> Result<Answer, AllocError>
-    requires cover { IsCoverOf inquiry.problem.now cover.now }
+    requires cover { IsCoverOf spec.problem.now cover.now }
     requires branch { told.branch < length (boxes_left_out cover.now) }
-    requires answers { ServeFor inquiry.problem.now answers.old }
-    ensures branch { let q = inquiry.entry in
+    requires answers { ServeFor spec.problem.now answers.old }
+    ensures branch { let q = spec.entry in
         IfOk result (IsAnswerAt q.problem.now q.kept told.entry.branch) }
-    ensures answers { ServeFor inquiry.entry.problem.now answers.new }
+    ensures answers { ServeFor spec.entry.problem.now answers.new }
 {
     let mut told = told;
     told.gate.at(0, Moment::Taken(told.branch));
     let boxed = cover.branch(alloc, told.branch)?;
-    let found = search_box(alloc, inquiry, boxed, &mut told, answers)?;
+    let found = search_box(alloc, spec, boxed, &mut told, answers)?;
     told.gate.at(0, Moment::Settled(told.branch));
     match found {
         Found::Map(map, lines) => Ok(Answer::Map(map, lines)),
@@ -254,31 +278,31 @@ fn search_whole<G: Gate>(
     }
 }
 
-/// The lines that lead to the map of a branch, if they are kept: those of the branches below it, in
-/// order, and its own, in their places among the lines of the root.
+/// Returns the lines of the root search that lead to the map of a branch if all lines are kept, and
+/// otherwise `own`. `below` has the lines of each earlier branch, and `own` those of the branch.
 fn lines_to_map(
     alloc: Global,
-    inquiry: Inquiry,
+    spec: SearchSpec,
     cover: &Cover,
     below: Vec<Lines>,
     own: Lines,
 ) -> Result<Lines, AllocError>
-    requires cover { IsCoverOf inquiry.problem.now cover.now }
-    requires branch { length below.items < branch_count inquiry.problem.now }
+    requires cover { IsCoverOf spec.problem.now cover.now }
+    requires branch { length below.items < branch_count spec.problem.now }
     requires below { let n = length below.items in
-        HasEachLines inquiry.problem.now inquiry.kept n below.items }
-    ensures { let q = inquiry.entry in let n = length below.items in
+        HasEachLines spec.problem.now spec.kept n below.items }
+    ensures { let q = spec.entry in let n = length below.items in
         IfOk result (λ ls. LeadIfKept q.problem.now q.kept n own.items ls.items) }
 {
-    match inquiry.kept {
-        KeptLines::All => fill_to_map(alloc, inquiry.problem, cover, below, own),
+    match spec.kept {
+        KeptLines::All => join_lines_to_map(alloc, spec.problem, cover, below, own),
         KeptLines::Refuting | KeptLines::Neither => Ok(own),
     }
 }
 
-/// The lines of the branches below one that has a map, in order, and its own,
-/// in their places among those of the root.
-fn fill_to_map(
+/// Returns the lines of the root search that lead to the map of a branch. `below` has the lines of
+/// each earlier branch, and `own` those of the branch itself.
+fn join_lines_to_map(
     alloc: Global,
     problem: &Problem,
     cover: &Cover,
@@ -296,61 +320,61 @@ fn fill_to_map(
     cover.fill_least(alloc, lists)
 }
 
-/// The lines that refute the root, if they are kept: those of all branches, in order, in their
-/// places among those of the root.
+/// Returns the lines that refute the root, made from `lists`, the lines of all branches in order,
+/// or no lines if they are not kept.
 fn lines_of_none(
     alloc: Global,
-    inquiry: Inquiry,
+    spec: SearchSpec,
     cover: &Cover,
     lists: Vec<Lines>,
 ) -> Result<Lines, AllocError>
-    requires cover { IsCoverOf inquiry.problem.now cover.now }
-    requires count { length lists.items ≡ branch_count inquiry.problem.now }
-    requires lists { let n = branch_count inquiry.problem.now in
-        HasEachLines inquiry.problem.now inquiry.kept n lists.items }
-    ensures { let q = inquiry.entry in
+    requires cover { IsCoverOf spec.problem.now cover.now }
+    requires count { length lists.items ≡ branch_count spec.problem.now }
+    requires lists { let n = branch_count spec.problem.now in
+        HasEachLines spec.problem.now spec.kept n lists.items }
+    ensures { let q = spec.entry in
         IfOk result (λ ls. AreLinesOf q.problem.now q.kept (root q.problem.now) ls.items) }
 {
-    match inquiry.kept {
+    match spec.kept {
         KeptLines::All | KeptLines::Refuting => cover.fill(alloc, lists),
         KeptLines::Neither => Ok(Vec::new(alloc)),
     }
 }
 
-/// Workers with these seats settle all branches.
+/// Settles all branches with one worker for each of `seats`.
 fn search_all<R: Threads + Sync, H: Handout, G: Gate>(
     rt: &R,
     alloc: Global,
-    site: SharedState<G>,
+    shared: SharedState<G>,
     seats: Vec<BoardSeat>,
 ) -> Result<Vec<Worker>, AllocError>
-    requires count { length seats.items ≡ site.board.now.workers }
-    requires seats { All (λ d. d ≡ fresh_desk site.board.now) seats.items }
-    requires some { (0 < site.board.now.workers) × (site.board.now.workers < 2 ^ 32) }
-    requires few { site.board.now.branches * site.board.now.workers < 2 ^ 32 }
-    ensures count { IfOk result (λ ws. length ws.items ≡ site.entry.board.now.workers) }
-    ensures workers { IfOk result (λ ws. AreWorkersOf site.entry ws.items) }
-    ensures settled { IfOk result (λ ws. AreAllSettled site.entry.board.now ws.items) }
+    requires count { length seats.items ≡ shared.board.now.workers }
+    requires seats { All (λ d. d ≡ fresh_desk shared.board.now) seats.items }
+    requires some { (0 < shared.board.now.workers) × (shared.board.now.workers < 2 ^ 32) }
+    requires few { shared.board.now.branches * shared.board.now.workers < 2 ^ 32 }
+    ensures count { IfOk result (λ ws. length ws.items ≡ shared.entry.board.now.workers) }
+    ensures workers { IfOk result (λ ws. AreWorkersOf shared.entry ws.items) }
+    ensures settled { IfOk result (λ ws. AreAllSettled shared.entry.board.now ws.items) }
 {
-    let (handout, shares) = H::deal(alloc, site.cover.branches(), seats.len() as u32)?;
-    let workers = fresh_workers(alloc, site.inquiry, site.board, seats)?;
+    let (handout, shares) = H::deal(alloc, shared.cover.branches(), seats.len() as u32)?;
+    let workers = fresh_workers(alloc, shared.spec, shared.board, seats)?;
     let members = CrewMembers { workers, shares };
-    let CrewMembers { workers, shares } = crew(rt, alloc, &site, &handout, members)?;
+    let CrewMembers { workers, shares } = crew(rt, alloc, &shared, &handout, members)?;
     let left = handout.finish(alloc, shares)?;
-    work_left(alloc, &site, workers, left.as_slice())
+    settle_left(alloc, &shared, workers, left.as_slice())
 }
 
-/// A worker for each seat. None has found out anything.
+/// Creates a worker for each seat, with an empty kernel cache, that has found nothing yet.
 fn fresh_workers(
     alloc: Global,
-    inquiry: Inquiry,
+    spec: SearchSpec,
     board: &Board,
     seats: Vec<BoardSeat>,
 ) -> Result<Vec<Worker>, AllocError>
     requires { All (λ d. d ≡ fresh_desk board.now) seats.items }
     ensures count { IfOk result (λ ws. length ws.items ≡ length seats.items) }
     ensures workers { IfOk result (λ ws.
-        All (IsFresh inquiry.entry.problem.now inquiry.entry.kept board.now) ws.items) }
+        All (IsFresh spec.entry.problem.now spec.entry.kept board.now) ws.items) }
 {
     let mut workers = Vec::with_capacity(alloc, seats.len())?;
     let mut seats = seats;
@@ -361,116 +385,118 @@ fn fresh_workers(
                 map: None,
                 lines: Vec::new(alloc),
             },
-            answers: KernelCache::new(alloc),
+            answers: BoxCache::new(alloc),
         })?;
     }
     Ok(workers)
 }
 
-/// The first worker settles the branches that are left.
-fn work_left<G: Gate>(
+/// Lets the first worker settle the branches `left`, which no worker has taken. The first worker
+/// comes last in the returned list.
+fn settle_left<G: Gate>(
     alloc: Global,
-    site: &SharedState<G>,
+    shared: &SharedState<G>,
     workers: Vec<Worker>,
     left: &[u32],
 ) -> Result<Vec<Worker>, AllocError>
     requires some { 0 < length workers.items }
-    requires workers { AreWorkersOf site.now workers.items }
-    requires left { AreAllBut site.now.board.now left.now workers.items }
+    requires workers { AreWorkersOf shared.now workers.items }
+    requires left { AreAllBut shared.now.board.now left.now workers.items }
     ensures count { IfOk result (λ ws. length ws.items ≡ length workers.items) }
-    ensures workers { IfOk result (λ ws. AreWorkersOf site.now ws.items) }
-    ensures settled { IfOk result (λ ws. AreAllSettled site.now.board.now ws.items) }
+    ensures workers { IfOk result (λ ws. AreWorkersOf shared.now ws.items) }
+    ensures settled { IfOk result (λ ws. AreAllSettled shared.now.board.now ws.items) }
 {
     let mut workers = workers;
     let first = workers.remove(0);
-    workers.push(settle_each(alloc, site, first, left)?)?;
+    workers.push(settle_each(alloc, shared, first, left)?)?;
     Ok(workers)
 }
 
-/// The first worker settles these branches.
+/// Lets the worker `first` settle the branches `left`, as worker 0.
 fn settle_each<G: Gate>(
     alloc: Global,
-    site: &SharedState<G>,
+    shared: &SharedState<G>,
     first: Worker,
     left: &[u32],
 ) -> Result<Worker, AllocError>
-    requires worker { IsWorkerOf site.now first }
-    requires left { AreToSettle site.now.board.now first.seat left.now }
-    ensures worker { IfOk result (IsWorkerOf site.now) }
+    requires worker { IsWorkerOf shared.now first }
+    requires left { AreToSettle shared.now.board.now first.seat left.now }
+    ensures worker { IfOk result (IsWorkerOf shared.now) }
     ensures settled { IfOk result (HasSettledEach left.now first) }
 {
     let mut me = first;
     for branch in left {
-        me = settle(alloc, site, 0, me, *branch)?;
+        me = settle(alloc, shared, 0, me, *branch)?;
     }
     Ok(me)
 }
 
-/// The account of all workers, and what they found.
+/// Closes `board`, and returns its counts of branches with what the workers found.
 fn finish(
     alloc: Global,
-    inquiry: Inquiry,
+    spec: SearchSpec,
     board: Board,
     workers: Vec<Worker>,
 ) -> Result<(Account, AllFinds), AllocError>
     requires count { length workers.items ≡ board.workers }
-    requires workers { AreWorkers inquiry.problem.now inquiry.kept board workers.items }
+    requires workers { AreWorkers spec.problem.now spec.kept board workers.items }
     requires settled { AreAllSettled board workers.items }
     ensures branches { IfOk result (λ r. r.0.branches ≡ board.branches) }
-    ensures tells { IfOk result (λ r. Tells inquiry.entry.problem.now inquiry.entry.kept r.0 r.1) }
+    ensures tells { IfOk result (λ r. Tells spec.entry.problem.now spec.entry.kept r.0 r.1) }
 {
-    let (seats, finds) = apart(alloc, workers)?;
+    let (seats, finds) = split_seats(alloc, workers)?;
     Ok((board.finish(seats), finds))
 }
 
-/// The map of the least branch that has one, and the lines that lead to it if they are kept; or
-/// none, and the lines that refute the root if they are kept.
+/// Makes the answer: the map of the least branch that has one, or that there is none, with the
+/// lines of the root if they are kept.
 fn answer_of(
     alloc: Global,
-    inquiry: Inquiry,
+    spec: SearchSpec,
     cover: &Cover,
     finds: AllFinds,
     account: Account,
 ) -> Result<Answer, AllocError>
-    requires cover { IsCoverOf inquiry.problem.now cover.now }
-    requires branches { account.branches ≡ branch_count inquiry.problem.now }
-    requires tells { Tells inquiry.problem.now inquiry.kept account finds }
-    ensures answer { IfOk result (IsAnswer inquiry.entry.problem.now inquiry.entry.kept) }
-    ensures account { IfOk result (λ a. HasAccount inquiry.entry.problem.now a account) }
+    requires cover { IsCoverOf spec.problem.now cover.now }
+    requires branches { account.branches ≡ branch_count spec.problem.now }
+    requires tells { Tells spec.problem.now spec.kept account finds }
+    ensures answer { IfOk result (IsAnswer spec.entry.problem.now spec.entry.kept) }
+    ensures account { IfOk result (λ a. HasAccount spec.entry.problem.now a account) }
 {
     if account.least < account.branches {
-        return map_answer(alloc, inquiry, cover, finds, account);
+        return map_answer(alloc, spec, cover, finds, account);
     }
-    match inquiry.kept {
+    match spec.kept {
         KeptLines::All | KeptLines::Refuting => {
-            let lists = in_order(alloc, inquiry, finds.lines, account.branches)?;
+            let lists = in_order(alloc, spec, finds.lines, account.branches)?;
             Ok(Answer::Nothing(cover.fill(alloc, lists)?))
         }
         KeptLines::Neither => Ok(Answer::Nothing(Vec::new(alloc))),
     }
 }
 
-/// The map of the least branch, and the lines that lead to it if they are kept.
+/// Makes the answer from the map of the least branch, with the lines that lead to it if they are
+/// kept.
 fn map_answer(
     alloc: Global,
-    inquiry: Inquiry,
+    spec: SearchSpec,
     cover: &Cover,
     finds: AllFinds,
     account: Account,
 ) -> Result<Answer, AllocError>
-    requires cover { IsCoverOf inquiry.problem.now cover.now }
-    requires branches { account.branches ≡ branch_count inquiry.problem.now }
-    requires tells { Tells inquiry.problem.now inquiry.kept account finds }
+    requires cover { IsCoverOf spec.problem.now cover.now }
+    requires branches { account.branches ≡ branch_count spec.problem.now }
+    requires tells { Tells spec.problem.now spec.kept account finds }
     requires some { account.least < account.branches }
-    ensures answer { IfOk result (IsAnswer inquiry.entry.problem.now inquiry.entry.kept) }
-    ensures account { IfOk result (λ a. HasAccount inquiry.entry.problem.now a account) }
+    ensures answer { IfOk result (IsAnswer spec.entry.problem.now spec.entry.kept) }
+    ensures account { IfOk result (λ a. HasAccount spec.entry.problem.now a account) }
 {
     let AllFinds { maps, lines } = finds;
-    let (map, own) = map_of(inquiry, maps, account.least);
-    match inquiry.kept {
+    let (map, own) = map_of(spec, maps, account.least);
+    match spec.kept {
         KeptLines::All => {
-            let below = in_order(alloc, inquiry, lines, account.least)?;
-            let lines = fill_to_map(alloc, inquiry.problem, cover, below, own)?;
+            let below = in_order(alloc, spec, lines, account.least)?;
+            let lines = join_lines_to_map(alloc, spec.problem, cover, below, own)?;
             Ok(Answer::Map(map, lines))
         }
         KeptLines::Refuting | KeptLines::Neither => Ok(Answer::Map(map, own)),

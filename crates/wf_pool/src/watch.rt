@@ -1,4 +1,4 @@
-//! A worker at a branch: it takes a turn only where it sees no lower branch posted.
+//! A worker in a branch: it makes a turn only if it sees no lower branch posted.
 
 ghost use Rattle.std.specs.Prelude.{◌≡◌, ◌+◌, ◌-◌, ◌<◌, IfOk};
 ghost use Rattle.wf_pool.specs.Work.{HasLooked, HasSettled, IsToSettle};
@@ -7,14 +7,14 @@ ghost use Rattle.wf_pool.specs.Looking.{looked_itself, looked_on};
 
 use crate::finding::search_box;
 use crate::gate::{Gate, Moment};
-use crate::site::SharedState;
+use crate::shared::SharedState;
 use crate::worker::Worker;
 use std::alloc::{AllocError, Global};
 use wf_board::{Board, BoardSeat};
 use wf_search::Stop;
 
-/// The seat of a worker while it searches a branch. It looks before each
-/// turn, and stops where a lower branch is posted.
+/// A stop that ends the search of a branch if a lower branch is posted. It holds the seat of the
+/// worker, and looks at the board before each turn.
 #[derive(Drop)]
 struct CuttingStop<'a, G> {
     board: &'a Board,
@@ -48,14 +48,14 @@ impl<'a, G: Gate> Stop for CuttingStop<'a, G> {
         (next.0 ∙ first.0, looked_on u.seat v.seat w.seat first.1 next.1) };
 }
 
-/// The only worker while it searches a branch: each turn is told to the gate, and it never stops.
+/// A stop that reports each turn of the only worker to an observer, and never ends the search.
 #[derive(Drop)]
-pub(crate) struct TellingStop<'a, G> {
+pub(crate) struct ObservedStop<'a, G> {
     pub(crate) gate: &'a G,
     pub(crate) branch: u32,
 }
 
-impl<'a, G: Gate> Stop for TellingStop<'a, G> {
+impl<'a, G: Gate> Stop for ObservedStop<'a, G> {
     ghost use Rattle.std.proofs.Common.{◌≡◌, refl, ◌∙◌};
 
     ghost asked = { λ n s t. s.branch ≡ t.branch };
@@ -72,14 +72,14 @@ impl<'a, G: Gate> Stop for TellingStop<'a, G> {
     ghost asked_on = { λ m n s t u first second. first ∙ second };
 }
 
-/// Counts down the questions of a search, and stops the search when none is left.
+/// A stop that ends the search after a number of turns.
 #[derive(Drop)]
 pub(crate) struct TurnLimit {
     left: u64,
 }
 
 impl TurnLimit {
-    /// The limit of a search that may take so many turns.
+    /// Creates a limit that allows `turns` turns.
     pub(crate) fn of(turns: u32) -> TurnLimit
         ensures { result.left ≡ turns + 1 }
     {
@@ -107,42 +107,43 @@ impl Stop for TurnLimit {
         left_on m n s.left t.left u.left first second };
 }
 
-/// Settles a branch that the worker has taken. Its search goes by what closing found out in the
-/// worker's earlier branches, and leaves the worker what is known then.
+/// Settles `branch`, which worker number `worker` has taken: searches it, until it sees a lower
+/// branch posted, and posts, refutes or cuts it. The search uses the worker's kernel cache, and
+/// adds new results to it.
 pub(crate) fn settle<G: Gate>(
     alloc: Global,
-    site: &SharedState<G>,
+    shared: &SharedState<G>,
     worker: u32,
     me: Worker,
     branch: u32,
 ) -> Result<Worker, AllocError>
-    requires me { IsWorkerOf site.now me }
-    requires branch { IsToSettle site.now.board.now me.seat branch }
-    ensures worker { IfOk result (IsWorkerOf site.now) }
+    requires me { IsWorkerOf shared.now me }
+    requires branch { IsToSettle shared.now.board.now me.seat branch }
+    ensures worker { IfOk result (IsWorkerOf shared.now) }
     ensures settled { IfOk result (HasSettled branch me) }
 {
-    site.gate.at(worker, Moment::Taken(branch));
-    let boxed = site.cover.branch(alloc, branch)?;
+    shared.gate.at(worker, Moment::Taken(branch));
+    let boxed = shared.cover.branch(alloc, branch)?;
     let Worker {
         seat,
         finds,
         mut answers,
     } = me;
     let mut watch = CuttingStop {
-        board: site.board,
-        gate: site.gate,
+        board: shared.board,
+        gate: shared.gate,
         worker,
         branch,
         seat,
     };
-    let found = search_box(alloc, site.inquiry, boxed, &mut watch, &mut answers)?;
+    let found = search_box(alloc, shared.spec, boxed, &mut watch, &mut answers)?;
     let CuttingStop { seat, .. } = watch;
     let me = Worker {
         seat,
         finds,
         answers,
     };
-    let settled = me.settle(site.board, branch, found)?;
-    site.gate.at(worker, Moment::Settled(branch));
+    let settled = me.settle(shared.board, branch, found)?;
+    shared.gate.at(worker, Moment::Settled(branch));
     Ok(settled)
 }

@@ -1,5 +1,4 @@
-//! A worker: its seat at the board, what it keeps of what it found, and what
-//! closing found out on the way.
+//! A worker: its seat at the board, what it found, and its kernel cache.
 
 ghost use Rattle.std.specs.Prelude.{◌≡◌, ◌<◌, IfOk, OnOk, filter, nat_lt};
 ghost use Rattle.wf_pool.specs.Branches.{IsMapAt, AreLinesAt};
@@ -7,14 +6,14 @@ ghost use Rattle.wf_search.specs.Found.{OnStopped};
 ghost use Rattle.wf_pool.specs.Work.{HasSettled, IsFoundAt, IsSeat, IsToSettle, StaysHonest, StaysHonestIf};
 
 use std::alloc::AllocError;
+use wf_base::lines::Lines;
 use wf_board::{Board, BoardSeat};
-use wf_box::KernelCache;
-use wf_lines::Lines;
+use wf_box::BoxCache;
 use wf_search::Found;
 
 /// The map of a branch, and the lines that lead to it if they are kept.
 #[derive(Drop)]
-pub(crate) struct MapAt {
+pub(crate) struct BranchMap {
     pub(crate) branch: u32,
     pub(crate) map: Vec<u8>,
     pub(crate) lines: Lines,
@@ -22,7 +21,7 @@ pub(crate) struct MapAt {
 
 /// A branch that has no map, and the lines that refute it if they are kept.
 #[derive(Drop)]
-pub(crate) struct LinesAt {
+pub(crate) struct BranchLines {
     pub(crate) branch: u32,
     pub(crate) lines: Lines,
 }
@@ -31,21 +30,22 @@ pub(crate) struct LinesAt {
 /// refuted, with their lines.
 #[derive(Drop)]
 pub(crate) struct Finds {
-    pub(crate) map: Option<MapAt>,
-    pub(crate) lines: Vec<LinesAt>,
+    pub(crate) map: Option<BranchMap>,
+    pub(crate) lines: Vec<BranchLines>,
 }
 
-/// A worker: its seat, its finds, and what closing found out in its branches
-/// so far, with which it begins the next one.
+/// A worker: its seat at the board, what it found, and its kernel cache, with which it begins the
+/// next branch.
 #[derive(Drop)]
 pub(crate) struct Worker {
     pub(crate) seat: BoardSeat,
     pub(crate) finds: Finds,
-    pub(crate) answers: KernelCache,
+    pub(crate) answers: BoxCache,
 }
 
 impl Worker {
-    /// Posts a branch that has a map, and keeps the map and its lines if no lower branch is posted.
+    /// Posts `branch`, which has a map, and keeps the map and its lines if no lower branch is
+    /// posted.
     pub(crate) fn post(&mut self, board: &Board, branch: u32, map: Vec<u8>, lines: Lines)
         requires seat { IsSeat board.now self.old.seat }
         requires branch { IsToSettle board.now self.old.seat branch }
@@ -56,12 +56,12 @@ impl Worker {
         ensures answers { self.new.answers ≡ self.old.answers }
     {
         if board.post(&mut self.seat, branch) == branch {
-            self.finds.map = Some(MapAt { branch, map, lines });
+            self.finds.map = Some(BranchMap { branch, map, lines });
         }
     }
 
-    /// Drops the lines that nobody will ask for: those of branches that are
-    /// not below the least posted one.
+    /// Drops the lines of the branches that are not below the least posted branch. The answer
+    /// doesn't need these.
     fn forget(&mut self)
         ensures seat { self.new.seat ≡ self.old.seat }
         ensures honest { StaysHonest self.old self.new }
@@ -70,7 +70,8 @@ impl Worker {
         keep_below(&mut self.finds.lines, self.seat.seen());
     }
 
-    /// Counts a branch that has no map, and keeps its lines if no lower branch is posted.
+    /// Counts `branch`, which has no map, as refuted, and keeps its lines if the worker has seen no
+    /// lower branch posted.
     pub(crate) fn refute(
         &mut self,
         board: &Board,
@@ -87,12 +88,12 @@ impl Worker {
     {
         board.searched(&mut self.seat, branch);
         if branch < self.seat.seen() {
-            self.finds.lines.push(LinesAt { branch, lines })?;
+            self.finds.lines.push(BranchLines { branch, lines })?;
         }
         Ok(())
     }
 
-    /// Counts a branch that needs no search: a lower one is posted.
+    /// Counts `branch` as cut. The worker must have seen a lower branch posted.
     pub(crate) fn cut(&mut self, board: &Board, branch: u32)
         requires seat { IsSeat board.now self.old.seat }
         requires branch { IsToSettle board.now self.old.seat branch }
@@ -105,7 +106,7 @@ impl Worker {
         board.cut(&mut self.seat, branch);
     }
 
-    /// Settles a branch by what a search of it found, with those of its lines that are kept.
+    /// Settles `branch` by the outcome `found` of its search: posts, refutes or cuts it.
     pub(crate) fn settle(
         self,
         board: &Board,
@@ -141,8 +142,8 @@ impl Worker {
     }
 }
 
-/// Keeps the lines of the branches below this one.
-fn keep_below(lines: &mut Vec<LinesAt>, branch: u32)
+/// Keeps only the lines of the branches below `branch`.
+fn keep_below(lines: &mut Vec<BranchLines>, branch: u32)
     ensures { lines.new.items ≡ filter (λ l. nat_lt l.branch branch) lines.old.items }
 {
     lines.retain(|at| at.branch < branch);

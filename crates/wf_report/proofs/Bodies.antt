@@ -4,8 +4,8 @@ use Rattle.std.proofs.lemmas.Result.{IfOk-weaker}
 use Rattle.wf_model.specs.Refutation.{Line}
 use Rattle.wf_model.specs.Report as reports
 use Rattle.wf_model.specs.Report.{steps_from, then_read, values_at_front}
-use Rattle.wf_io.specs.Seen.{Reading}
-use Rattle.wf_io.specs.declared.source.ReadFault.TheVariants as unread
+use Rattle.wf_base.specs.Streams.Seen.{Reading}
+use Rattle.wf_base.specs.declared.streams.source.ReadFault.TheVariants as unread
 use Rattle.wf_report.specs.Steps.{step_in}
 use Rattle.wf_report.specs.declared.reading.Section.{Section}
 use Rattle.wf_report.specs.declared.reading.Section.TheVariants.{Values, Refutation, Search}
@@ -13,8 +13,8 @@ use Rattle.wf_report.specs.declared.front.AnswerKind.TheVariants.{Map, Nothing, 
 use Rattle.wf_report.specs.Parts.{ReadsBody, ReadsMap, ReadsSteps, ReadsValues, body_then, map_then, steps_then, values_then}
 use Rattle.wf_report.specs.Reads.{Parse, Reads}
 use Rattle.wf_report.specs.Windows.{Ahead, CanGive}
-use Rattle.wf_report.specs.declared.halt.Halt.{Halt}
-use Rattle.wf_report.specs.declared.halt.Halt.TheVariants.{Unread}
+use Rattle.wf_report.specs.declared.halt.ReadStop.{ReadStop}
+use Rattle.wf_report.specs.declared.halt.ReadStop.TheVariants.{SourceFailed}
 use Rattle.wf_report.proofs.Chains.{gives_nothing, refused_as, then_reads}
 
 -- ---- from parts to a body
@@ -40,11 +40,11 @@ pub none_is : (next : reports.Body → reports.Reading reports.Report) → steps
 none_is next = λ i ls. sym (then_twice (steps_from (step_in Refutation) 7 ls) reports.none next) i
 
 -- a part read from the same lines, written otherwise
-pub reads_from : {X : Type 0} (f f' : Parse) (g : X → Parse) (a b : Reading) (w w' : Ahead) (result : Result X Halt) → f ≡ f' → Reads f g a b w w' result → Reads f' g a b w w' result
+pub reads_from : {X : Type 0} (f f' : Parse) (g : X → Parse) (a b : Reading) (w w' : Ahead) (result : Result X ReadStop) → f ≡ f' → Reads f g a b w w' result → Reads f' g a b w w' result
 reads_from f f' g a b w w' result same read = subst (λ h. Reads h g a b w w' result) same read
 
 -- values and then steps
-pub map_reads : {X K : Type 0} (part : Section) (a b c : Reading) (w w1 w2 : Ahead) (values : List ℕ) (steps : List Line) (kept : K) (result : Result X Halt)
+pub map_reads : {X K : Type 0} (part : Section) (a b c : Reading) (w w1 w2 : Ahead) (values : List ℕ) (steps : List Line) (kept : K) (result : Result X ReadStop)
     → ((next : List ℕ → Parse) → Reads (values_then next) (λ (kept : K). next values) a b w w1 (Ok kept)) → w1.number ≡ w.number + length values
     → ((next : List Line → reports.Reading reports.Report) → Reads (steps_then part w1.number next) (λ (x : X) ls. next steps) b c w1 w2 result)
     → (next : List ℕ → List Line → reports.Reading reports.Report) → Reads (map_then part next w.number) (λ (x : X) ls. next values steps) a c w w2 result
@@ -57,7 +57,7 @@ map_reads {X = X} {K = K} part a b c w w1 w2 values steps kept result first numb
 
 module _ {A X : Type 0} (part : Section) (most : ℕ) (says : List ℕ → List Line → X → Type 0) (a b c : Reading) (w w1 w2 : Ahead) where
   -- values, and what is found of the steps behind them
-  pub map_parts : (of_steps : List Line → X → Type 0) (kept : Vec ℕ A) (result : Result X Halt) → ReadsValues most a b w w1 (Ok kept) → ReadsSteps part of_steps b c w1 w2 result
+  pub map_parts : (of_steps : List Line → X → Type 0) (kept : Vec ℕ A) (result : Result X ReadStop) → ReadsValues most a b w w1 (Ok kept) → ReadsSteps part of_steps b c w1 w2 result
       → ((values : List ℕ) (steps : List Line) (x : X) → kept.items ≡ take most values → w1.number ≡ w.number + length values → of_steps steps x → says values steps x) → ReadsMap part says a c w w2 result
   map_parts of_steps kept result (values, first, (same, numbers)) (steps, second, is) turn =
       (values, steps, map_reads part a b c w w1 w2 values steps kept result first numbers second, IfOk-weaker result (of_steps steps) (says values steps) (λ x h. turn values steps x same numbers h) is)
@@ -69,7 +69,7 @@ module _ {A X : Type 0} (part : Section) (most : ℕ) (says : List ℕ → List 
       (values, steps, map_reads part a b c w w1 w2 values steps kept (Ok x) first numbers second, turn values steps same)
 
   -- steps that are not read to their end
-  pub map_cut : {Y : Type 0} (of_steps : List Line → Y → Type 0) (kept : Vec ℕ A) (e : Halt) (result : Result X Halt) → IsErr result × IsErrAnd result (λ found. found ≡ e) → ReadsValues most a b w w1 (Ok kept)
+  pub map_cut : {Y : Type 0} (of_steps : List Line → Y → Type 0) (kept : Vec ℕ A) (e : ReadStop) (result : Result X ReadStop) → IsErr result × IsErrAnd result (λ found. found ≡ e) → ReadsValues most a b w w1 (Ok kept)
       → ReadsSteps part of_steps b c w1 w2 (Err e) → ReadsMap part says a c w w2 result
   map_cut of_steps kept e (Ok x) is first second = absurd (let ended = is.0 in let bad : ⊥ = cc in bad)
   map_cut {Y = Y} of_steps kept e (Err found) is (values, first, (same, numbers)) (steps, second, said) =
@@ -82,7 +82,7 @@ module _ {A X : Type 0} (part : Section) (most : ℕ) (says : List ℕ → List 
       )
 
 -- values that are not read to their end
-pub map_unread : {A X : Type 0} (given : Result (Vec ℕ A) Halt) (part : Section) (most : ℕ) (says : List ℕ → List Line → X → Type 0) (a b : Reading) (w w1 : Ahead) (e : Halt) (result : Result X Halt) → IsErr result × IsErrAnd result (λ found. found ≡ e)
+pub map_unread : {A X : Type 0} (given : Result (Vec ℕ A) ReadStop) (part : Section) (most : ℕ) (says : List ℕ → List Line → X → Type 0) (a b : Reading) (w w1 : Ahead) (e : ReadStop) (result : Result X ReadStop) → IsErr result × IsErrAnd result (λ found. found ≡ e)
     → ReadsValues {A = A} most a b w w1 (Err e) → ReadsMap part says a b w w1 result
 map_unread given part most says a b w w1 e (Ok x) is first = absurd (let ended = is.0 in let bad : ⊥ = cc in bad)
 map_unread {A = A} {X = X} given part most says a b w w1 e (Err found) is (values, first, none) =
@@ -96,12 +96,12 @@ map_unread {A = A} {X = X} given part most says a b w w1 e (Err found) is (value
     )
 
 -- what is found of the steps, by more
-pub steps_weaker : {X : Type 0} (part : Section) (says says' : List Line → X → Type 0) (a b : Reading) (w w' : Ahead) (result : Result X Halt) → ReadsSteps part says a b w w' result
+pub steps_weaker : {X : Type 0} (part : Section) (says says' : List Line → X → Type 0) (a b : Reading) (w w' : Ahead) (result : Result X ReadStop) → ReadsSteps part says a b w w' result
     → ((steps : List Line) (x : X) → says steps x → says' steps x) → ReadsSteps part says' a b w w' result
 steps_weaker part says says' a b w w' result (steps, reads, is) turn = (steps, reads, IfOk-weaker result (says steps) (says' steps) (turn steps) is)
 
 -- no memory was left before any step was read
-pub steps_unread : {X : Type 0} (part : Section) (says : List Line → X → Type 0) (s : Reading) (w : Ahead) (result : Result X Halt) → CanGive s w → IsErr result × IsErrAnd result (λ found. found ≡ Unread unread.OutOfMemory)
+pub steps_unread : {X : Type 0} (part : Section) (says : List Line → X → Type 0) (s : Reading) (w : Ahead) (result : Result X ReadStop) → CanGive s w → IsErr result × IsErrAnd result (λ found. found ≡ SourceFailed unread.OutOfMemory)
     → ReadsSteps part says s s w w result
 steps_unread part says s w (Ok x) can is = absurd (let ended = is.0 in let bad : ⊥ = cc in bad)
 steps_unread part says s w (Err found) can is =
@@ -109,7 +109,7 @@ steps_unread part says s w (Err found) can is =
 
 -- ---- bodies
 
-module _ {X : Type 0} (a b : Reading) (w w' : Ahead) (result : Result X Halt) (says : reports.Body → X → Type 0) (number : w.number ≡ 7) where
+module _ {X : Type 0} (a b : Reading) (w w' : Ahead) (result : Result X ReadStop) (says : reports.Body → X → Type 0) (number : w.number ≡ 7) where
   pub none_reads : (of_steps : List Line → X → Type 0) → ReadsSteps Refutation of_steps a b w w' result → ((steps : List Line) (x : X) → of_steps steps x → says (reports.none steps) x) → ReadsBody Nothing says a b w w' result
   none_reads of_steps (steps, reads, is) turn = (
     reports.none steps,

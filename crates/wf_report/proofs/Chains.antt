@@ -1,13 +1,13 @@
 -- What is read in steps, one after the other.
 use Rattle.std.proofs.Common.{◌≡◌, ◌<◌, ℕ, ◌+◌, List, [], ◌++◌, Result, Ok, Err, IsErr, IsErrAnd, refl, sym, ap, ◌∙◌, subst, arith, append_assoc, length-append}
 use Rattle.std.proofs.KnownBytes.{Consumes-nil, Consumes-trans}
-use Rattle.wf_io.specs.Seen.{Reading}
+use Rattle.wf_base.specs.Streams.Seen.{Reading}
 use Rattle.wf_report.specs.declared.fault.CertFault.TheVariants as amiss
 use Rattle.wf_report.specs.Limits.{most_report_lines}
 use Rattle.wf_report.specs.Reads.{Answers, Continues, Counts, MayFollow, Parse, Reads, last_number, lines_ahead}
 use Rattle.wf_report.specs.Windows.{Ahead, CanGive, Gives, failed_calls}
-use Rattle.wf_report.specs.declared.halt.Halt.{Halt}
-use Rattle.wf_report.specs.declared.halt.Halt.TheVariants.{Amiss, Unread}
+use Rattle.wf_report.specs.declared.halt.ReadStop.{ReadStop}
+use Rattle.wf_report.specs.declared.halt.ReadStop.TheVariants.{BadReport, SourceFailed}
 
 -- nothing was given
 pub gives_nothing : (s : Reading) (w w' : Ahead) → w'.given ≡ w.given → w'.most ≡ w.most → w'.ended ≡ w.ended → Gives s s w w' [] 0
@@ -55,27 +55,27 @@ module _ (a b c : Reading) (w w1 w2 : Ahead) (bs cs : List ℕ) (failed : ℕ) (
   continues_on f g h one two more may =
       ap (λ bytes. f (lines_ahead w bytes)) (append_assoc bs cs more) ∙ one (cs ++ more) (follows more may) ∙ two more may
 
-  pub answers_on : {Y : Type 0} (f g : Parse) (h : Y → Parse) (result : Result Y Halt) → Continues f g w w1 bs → Counts w w1 bs → Answers g h w1 w2 cs result → Answers f h w w2 (bs ++ cs) result
+  pub answers_on : {Y : Type 0} (f g : Parse) (h : Y → Parse) (result : Result Y ReadStop) → Continues f g w w1 bs → Counts w w1 bs → Answers g h w1 w2 cs result → Answers f h w w2 (bs ++ cs) result
   answers_on f g h (Ok y) one count two = (continues_on f g (h y) one two.0, continues_on (last_number w) (last_number w1) (last_number w2) count two.1)
-  answers_on f g h (Err (Amiss (amiss.Syntax k))) one count two = continues_on f g (λ ls. Err k) one two
-  answers_on f g h (Err (Amiss amiss.TooLong)) one count two = λ more may.
+  answers_on f g h (Err (BadReport (amiss.Syntax k))) one count two = continues_on f g (λ ls. Err k) one two
+  answers_on f g h (Err (BadReport amiss.TooLong)) one count two = λ more may.
       subst (λ n. most_report_lines + 1 < n) (sym (ap (λ bytes. last_number w (lines_ahead w bytes)) (append_assoc bs cs more) ∙ count (cs ++ more) (follows more may))) (two more may)
-  answers_on f g h (Err (Amiss (amiss.Header k))) one count two = absurd two
-  answers_on f g h (Err (Amiss amiss.MapLength)) one count two = absurd two
-  answers_on f g h (Err (Amiss (amiss.Violates k))) one count two = absurd two
-  answers_on f g h (Err (Amiss (amiss.NoSuch k))) one count two = absurd two
-  answers_on f g h (Err (Amiss (amiss.Unsound k))) one count two = absurd two
-  answers_on f g h (Err (Amiss (amiss.NotEmpty k))) one count two = absurd two
-  answers_on f g h (Err (Amiss (amiss.NotOpen k))) one count two = absurd two
-  answers_on f g h (Err (Amiss amiss.Unfinished)) one count two = absurd two
-  answers_on f g h (Err (Amiss (amiss.Trailing k))) one count two = absurd two
-  answers_on f g h (Err (Amiss (amiss.NotFirst k))) one count two = absurd two
-  answers_on f g h (Err (Amiss (amiss.NotTheMap k))) one count two = absurd two
-  answers_on f g h (Err (Amiss amiss.OutOfMemory)) one count two = absurd two
-  answers_on f g h (Err (Unread e)) one count two = two
+  answers_on f g h (Err (BadReport (amiss.Header k))) one count two = absurd two
+  answers_on f g h (Err (BadReport amiss.MapLength)) one count two = absurd two
+  answers_on f g h (Err (BadReport (amiss.Violates k))) one count two = absurd two
+  answers_on f g h (Err (BadReport (amiss.NoSuch k))) one count two = absurd two
+  answers_on f g h (Err (BadReport (amiss.Unsound k))) one count two = absurd two
+  answers_on f g h (Err (BadReport (amiss.NotEmpty k))) one count two = absurd two
+  answers_on f g h (Err (BadReport (amiss.NotOpen k))) one count two = absurd two
+  answers_on f g h (Err (BadReport amiss.Unfinished)) one count two = absurd two
+  answers_on f g h (Err (BadReport (amiss.Trailing k))) one count two = absurd two
+  answers_on f g h (Err (BadReport (amiss.NotFirst k))) one count two = absurd two
+  answers_on f g h (Err (BadReport (amiss.NotTheMap k))) one count two = absurd two
+  answers_on f g h (Err (BadReport amiss.OutOfMemory)) one count two = absurd two
+  answers_on f g h (Err (SourceFailed e)) one count two = two
 
 -- one step, and then another
-pub then_reads : {X Y : Type 0} (f : Parse) (g : X → Parse) (h : Y → Parse) (a b c : Reading) (w w1 w2 : Ahead) (x : X) (result : Result Y Halt)
+pub then_reads : {X Y : Type 0} (f : Parse) (g : X → Parse) (h : Y → Parse) (a b c : Reading) (w w1 w2 : Ahead) (x : X) (result : Result Y ReadStop)
     → Reads f g a b w w1 (Ok x) → Reads (g x) h b c w1 w2 result → Reads f h a c w w2 result
 then_reads f g h a b c w w1 w2 x result (bs, gives, answers) (cs, gives', answers') = (
   bs ++ cs,
@@ -86,32 +86,32 @@ then_reads f g h a b c w w1 w2 x result (bs, gives, answers) (cs, gives', answer
 -- ---- refusals
 
 module _ {X Y : Type 0} (f : Parse) (g : X → Parse) (h : Y → Parse) (a b : Reading) (w w' : Ahead) where
-  same_refusal : (bs : List ℕ) (e : Halt) → Answers f g w w' bs (Err e) → Answers f h w w' bs (Err e)
-  same_refusal bs (Amiss (amiss.Syntax k)) is = is
-  same_refusal bs (Amiss amiss.TooLong) is = is
-  same_refusal bs (Amiss (amiss.Header k)) is = is
-  same_refusal bs (Amiss amiss.MapLength) is = is
-  same_refusal bs (Amiss (amiss.Violates k)) is = is
-  same_refusal bs (Amiss (amiss.NoSuch k)) is = is
-  same_refusal bs (Amiss (amiss.Unsound k)) is = is
-  same_refusal bs (Amiss (amiss.NotEmpty k)) is = is
-  same_refusal bs (Amiss (amiss.NotOpen k)) is = is
-  same_refusal bs (Amiss amiss.Unfinished) is = is
-  same_refusal bs (Amiss (amiss.Trailing k)) is = is
-  same_refusal bs (Amiss (amiss.NotFirst k)) is = is
-  same_refusal bs (Amiss (amiss.NotTheMap k)) is = is
-  same_refusal bs (Amiss amiss.OutOfMemory) is = is
-  same_refusal bs (Unread e) is = is
+  same_refusal : (bs : List ℕ) (e : ReadStop) → Answers f g w w' bs (Err e) → Answers f h w w' bs (Err e)
+  same_refusal bs (BadReport (amiss.Syntax k)) is = is
+  same_refusal bs (BadReport amiss.TooLong) is = is
+  same_refusal bs (BadReport (amiss.Header k)) is = is
+  same_refusal bs (BadReport amiss.MapLength) is = is
+  same_refusal bs (BadReport (amiss.Violates k)) is = is
+  same_refusal bs (BadReport (amiss.NoSuch k)) is = is
+  same_refusal bs (BadReport (amiss.Unsound k)) is = is
+  same_refusal bs (BadReport (amiss.NotEmpty k)) is = is
+  same_refusal bs (BadReport (amiss.NotOpen k)) is = is
+  same_refusal bs (BadReport amiss.Unfinished) is = is
+  same_refusal bs (BadReport (amiss.Trailing k)) is = is
+  same_refusal bs (BadReport (amiss.NotFirst k)) is = is
+  same_refusal bs (BadReport (amiss.NotTheMap k)) is = is
+  same_refusal bs (BadReport amiss.OutOfMemory) is = is
+  same_refusal bs (SourceFailed e) is = is
 
-  same_failures : (e : Halt) → failed_calls {X = X} (Err e) ≡ failed_calls {X = Y} (Err e)
-  same_failures (Amiss e) = refl
-  same_failures (Unread e) = refl
+  same_failures : (e : ReadStop) → failed_calls {X = X} (Err e) ≡ failed_calls {X = Y} (Err e)
+  same_failures (BadReport e) = refl
+  same_failures (SourceFailed e) = refl
 
   -- what is refused is refused, whatever would have come of it
-  pub refused_as : (e : Halt) → Reads f g a b w w' (Err e) → Reads f h a b w w' (Err e)
+  pub refused_as : (e : ReadStop) → Reads f g a b w w' (Err e) → Reads f h a b w w' (Err e)
   refused_as e (bs, gives, answers) = (bs, subst (Gives a b w w' bs) (same_failures e) gives, same_refusal bs e answers)
 
-  pub stopped : (e : Halt) (result : Result Y Halt) → IsErr result × IsErrAnd result (λ found. found ≡ e) → Reads f g a b w w' (Err e) → Reads f h a b w w' result
+  pub stopped : (e : ReadStop) (result : Result Y ReadStop) → IsErr result × IsErrAnd result (λ found. found ≡ e) → Reads f g a b w w' (Err e) → Reads f h a b w w' result
   stopped e (Ok y) is read = absurd (let ended = is.0 in let bad : ⊥ = cc in bad)
   stopped e (Err found) is read = subst (λ s. Reads f h a b w w' (Err s)) (sym is.1) (refused_as e read)
 
@@ -129,6 +129,6 @@ can_on a b w w' bs can gives =
     }
 
 -- one step, and then a refusal
-pub then_stops : {X Y Z : Type 0} (f : Parse) (g : X → Parse) (k : Y → Parse) (h : Z → Parse) (a b c : Reading) (w w1 w2 : Ahead) (x : X) (e : Halt) (result : Result Z Halt)
+pub then_stops : {X Y Z : Type 0} (f : Parse) (g : X → Parse) (k : Y → Parse) (h : Z → Parse) (a b c : Reading) (w w1 w2 : Ahead) (x : X) (e : ReadStop) (result : Result Z ReadStop)
     → IsErr result × IsErrAnd result (λ found. found ≡ e) → Reads f g a b w w1 (Ok x) → Reads (g x) k b c w1 w2 (Err e) → Reads f h a c w w2 result
 then_stops f g k h a b c w w1 w2 x e result is first second = then_reads f g h a b c w w1 w2 x result first (stopped (g x) k h b c w1 w2 e result is second)

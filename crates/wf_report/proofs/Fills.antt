@@ -1,8 +1,8 @@
 -- What is given to a window, piece by piece.
 use Rattle.std.proofs.Common.{◌≡◌, ◌<◌, ◌⊎◌, ℕ, ◌+◌, ◌-◌, ◌++◌, Bool, true, false, cond, List, [], length, inl, inr, Ok, Err, refl, sym, ap, ◌∙◌, subst, arith, append_assoc, append-nil, length-append}
-use Rattle.wf_io.specs.Seen.{Reading}
-use Rattle.wf_io.specs.declared.source.ReadFault.{ReadFault}
-use Rattle.wf_io.specs.declared.source.ReadFault.TheVariants.{OutOfMemory}
+use Rattle.wf_base.specs.Streams.Seen.{Reading}
+use Rattle.wf_base.specs.declared.streams.source.ReadFault.{ReadFault}
+use Rattle.wf_base.specs.declared.streams.source.ReadFault.TheVariants.{OutOfMemory}
 use Rattle.wf_report.specs.Windows.{Ahead, CanGive, Collects, Drains, Fills, Gives, IsFront, IsShort, Seeks, failed_by, without_pending}
 use Rattle.wf_report.specs.declared.window.AtFront.{AtFront}
 use Rattle.wf_report.proofs.Chains.{gives_nothing, gives_on}

@@ -4,9 +4,9 @@ use Rattle.std.proofs.lemmas.List.{take-append-drop}
 use Rattle.wf_model.specs.Report as reports
 use Rattle.wf_model.specs.Report.{least_body, line, lines_of, map_body, none_body, number_of_line, same_text, then_read, value_of_line}
 use Rattle.wf_model.specs.Refutation.{Line}
-use Rattle.wf_io.specs.Seen.{Reading}
-use Rattle.wf_lines.specs.Lines.{line_of}
-use Rattle.wf_lines.specs.declared.line.Line as code
+use Rattle.wf_base.specs.Streams.Seen.{Reading}
+use Rattle.wf_base.specs.Lines.Lines.{line_of}
+use Rattle.wf_base.specs.declared.lines.line.Line as code
 use Rattle.wf_report.specs.declared.fault.CertFault.TheVariants as amiss
 use Rattle.wf_report.specs.declared.reading.Section.{Section}
 use Rattle.wf_report.specs.Steps.{step_in}
@@ -18,8 +18,8 @@ use Rattle.wf_report.specs.Fronts.{FailsAt, answer_of}
 use Rattle.wf_report.specs.Parts.{body_then, end_then, fixed_then, number_then, report_from, step_then, steps_then, values_then}
 use Rattle.wf_report.specs.Reads.{Continues, Counts, MayFollow, Parse, Reads, lines_ahead}
 use Rattle.wf_report.specs.Windows.{Ahead, CanGive, Finds, IsCutAt, IsFront, IsLineAt, passed}
-use Rattle.wf_report.specs.declared.halt.Halt.{Halt}
-use Rattle.wf_report.specs.declared.halt.Halt.TheVariants.{Amiss, Unread}
+use Rattle.wf_report.specs.declared.halt.ReadStop.{ReadStop}
+use Rattle.wf_report.specs.declared.halt.ReadStop.TheVariants.{BadReport, SourceFailed}
 use Rattle.wf_report.specs.declared.window.AtFront.{AtFront}
 use Rattle.wf_report.specs.declared.window.AtFront.TheVariants as found
 use Rattle.wf_report.proofs.BadLines.{BeginsBadly, has_lines, long_first, not_fixed, not_number, not_step, not_value, one_bad}
@@ -41,8 +41,8 @@ module _ (a b : Reading) (w w' : Ahead) where
   )
 
   -- nothing was found
-  pub find_stops : {X : Type 0} (f : Parse) (g : X → Parse) (e : Halt) → Finds a b w w' (Err e) → Reads f g a b w w' (Err e)
-  find_stops f g (Amiss amiss.TooLong) (bytes, gives, (pending, number, past, some)) = (
+  pub find_stops : {X : Type 0} (f : Parse) (g : X → Parse) (e : ReadStop) → Finds a b w w' (Err e) → Reads f g a b w w' (Err e)
+  find_stops f g (BadReport amiss.TooLong) (bytes, gives, (pending, number, past, some)) = (
     bytes,
     gives,
     λ more may.
@@ -51,20 +51,20 @@ module _ (a b : Reading) (w w' : Ahead) where
         let has = has_lines (w'.pending ++ more) (omega (arith, size, some)) in
         omega (arith, grown, has, past),
   )
-  find_stops f g (Amiss (amiss.Syntax k)) (bytes, gives, is) = absurd is
-  find_stops f g (Amiss (amiss.Header k)) (bytes, gives, is) = absurd is
-  find_stops f g (Amiss amiss.MapLength) (bytes, gives, is) = absurd is
-  find_stops f g (Amiss (amiss.Violates k)) (bytes, gives, is) = absurd is
-  find_stops f g (Amiss (amiss.NoSuch k)) (bytes, gives, is) = absurd is
-  find_stops f g (Amiss (amiss.Unsound k)) (bytes, gives, is) = absurd is
-  find_stops f g (Amiss (amiss.NotEmpty k)) (bytes, gives, is) = absurd is
-  find_stops f g (Amiss (amiss.NotOpen k)) (bytes, gives, is) = absurd is
-  find_stops f g (Amiss amiss.Unfinished) (bytes, gives, is) = absurd is
-  find_stops f g (Amiss (amiss.Trailing k)) (bytes, gives, is) = absurd is
-  find_stops f g (Amiss (amiss.NotFirst k)) (bytes, gives, is) = absurd is
-  find_stops f g (Amiss (amiss.NotTheMap k)) (bytes, gives, is) = absurd is
-  find_stops f g (Amiss amiss.OutOfMemory) (bytes, gives, is) = absurd is
-  find_stops f g (Unread e) (bytes, gives, is) = (bytes, gives, is.0)
+  find_stops f g (BadReport (amiss.Syntax k)) (bytes, gives, is) = absurd is
+  find_stops f g (BadReport (amiss.Header k)) (bytes, gives, is) = absurd is
+  find_stops f g (BadReport amiss.MapLength) (bytes, gives, is) = absurd is
+  find_stops f g (BadReport (amiss.Violates k)) (bytes, gives, is) = absurd is
+  find_stops f g (BadReport (amiss.NoSuch k)) (bytes, gives, is) = absurd is
+  find_stops f g (BadReport (amiss.Unsound k)) (bytes, gives, is) = absurd is
+  find_stops f g (BadReport (amiss.NotEmpty k)) (bytes, gives, is) = absurd is
+  find_stops f g (BadReport (amiss.NotOpen k)) (bytes, gives, is) = absurd is
+  find_stops f g (BadReport amiss.Unfinished) (bytes, gives, is) = absurd is
+  find_stops f g (BadReport (amiss.Trailing k)) (bytes, gives, is) = absurd is
+  find_stops f g (BadReport (amiss.NotFirst k)) (bytes, gives, is) = absurd is
+  find_stops f g (BadReport (amiss.NotTheMap k)) (bytes, gives, is) = absurd is
+  find_stops f g (BadReport amiss.OutOfMemory) (bytes, gives, is) = absurd is
+  find_stops f g (SourceFailed e) (bytes, gives, is) = (bytes, gives, is.0)
 
 -- ---- a front that is no line of a report
 
@@ -120,13 +120,13 @@ module _ {X Y : Type 0} (f : Parse) (g : Y → Parse) (a b : Reading) (w w1 : Ah
       then_reads f (λ x. f) g a b b w w1 (passed size w1) x (Ok y) read ([], gives_nothing b w1 (passed size w1) refl refl refl, passes w1 size at f (g y) step)
 
   -- a line was found, and is bad
-  pub read_refusing : (size k : ℕ) → IsCutAt size w1 → ((ls : List (List ℕ)) → f ((take size w1.pending ++ 10 ∷ []) ∷ ls) ≡ Err k) → Reads f g a b w w1 (Err (Amiss (amiss.Syntax k)))
+  pub read_refusing : (size k : ℕ) → IsCutAt size w1 → ((ls : List (List ℕ)) → f ((take size w1.pending ++ 10 ∷ []) ∷ ls) ≡ Err k) → Reads f g a b w w1 (Err (BadReport (amiss.Syntax k)))
   read_refusing size k at step =
-      then_reads f (λ x. f) g a b b w w1 w1 x (Err (Amiss (amiss.Syntax k))) read ([], gives_nothing b w1 w1 refl refl refl, refuses w1 size at f k step)
+      then_reads f (λ x. f) g a b b w w1 w1 x (Err (BadReport (amiss.Syntax k))) read ([], gives_nothing b w1 w1 refl refl refl, refuses w1 size at f k step)
 
   -- what is there is bad
-  pub read_failing : (k : ℕ) → Continues f (λ ls. Err k) w1 w1 [] → Reads f g a b w w1 (Err (Amiss (amiss.Syntax k)))
-  read_failing k is = then_reads f (λ x. f) g a b b w w1 w1 x (Err (Amiss (amiss.Syntax k))) read ([], gives_nothing b w1 w1 refl refl refl, is)
+  pub read_failing : (k : ℕ) → Continues f (λ ls. Err k) w1 w1 [] → Reads f g a b w w1 (Err (BadReport (amiss.Syntax k)))
+  read_failing k is = then_reads f (λ x. f) g a b b w w1 w1 x (Err (BadReport (amiss.Syntax k))) read ([], gives_nothing b w1 w1 refl refl refl, is)
 
   -- what is there stays
   pub read_staying : (y : Y) → Continues f (g y) w1 w1 [] → Reads f g a b w w1 (Ok y)
@@ -302,7 +302,7 @@ module _ (part : Section) (a b : Reading) (w w1 : Ahead) (at size : ℕ) (same :
       ∙ ap (λ k. steps_then part (k + 1) (λ steps. next (line_of l ∷ steps)) ls) (sym number))
 
   pub step_refused : {Y : Type 0} (g : Y → Parse) → same_text (take size w1.pending) (codes "end") ≡ false → step_in part (take size w1.pending ++ 10 ∷ []) ≡ None
-      → Reads steps_here g a b w w1 (Err (Amiss (amiss.Syntax at)))
+      → Reads steps_here g a b w w1 (Err (BadReport (amiss.Syntax at)))
   step_refused g end step =
       read_refusing steps_here g a b w w1 size (line_found steps_here steps_fail_here) size at cut
       (λ ls. step_read part w.number next (take size w1.pending) false None end step ls ∙ ap Err (sym same))

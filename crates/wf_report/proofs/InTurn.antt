@@ -2,16 +2,16 @@
 use Rattle.std.proofs.Common.{◌≡◌, ℕ, ◌+◌, ◌++◌, List, [], ◌∷◌, length, take, Some, None, Vec, Result, Ok, Err, IsErr, IsErrAnd, refl, sym, ap, subst, append_assoc, append-nil}
 use Rattle.wf_model.specs.Refutation.{Line}
 use Rattle.wf_model.specs.Report as reports
-use Rattle.wf_io.specs.Seen.{Reading}
-use Rattle.wf_io.specs.declared.source.ReadFault.TheVariants as unread
-use Rattle.wf_lines.specs.Lines.{line_of}
-use Rattle.wf_lines.specs.declared.line.Line as code
+use Rattle.wf_base.specs.Streams.Seen.{Reading}
+use Rattle.wf_base.specs.declared.streams.source.ReadFault.TheVariants as unread
+use Rattle.wf_base.specs.Lines.Lines.{line_of}
+use Rattle.wf_base.specs.declared.lines.line.Line as code
 use Rattle.wf_report.specs.declared.reading.Section.{Section}
 use Rattle.wf_report.specs.Parts.{ReadsSteps, ReadsValues, step_then, steps_then, value_then, values_then}
 use Rattle.wf_report.specs.Reads.{Parse, Reads}
 use Rattle.wf_report.specs.Windows.{Ahead, CanGive}
-use Rattle.wf_report.specs.declared.halt.Halt.{Halt}
-use Rattle.wf_report.specs.declared.halt.Halt.TheVariants.{Unread}
+use Rattle.wf_report.specs.declared.halt.ReadStop.{ReadStop}
+use Rattle.wf_report.specs.declared.halt.ReadStop.TheVariants.{SourceFailed}
 use Rattle.wf_report.proofs.Chains.{gives_nothing, refused_as, then_reads}
 
 -- nothing was read
@@ -103,11 +103,11 @@ pub record AreSkimmed (part : Section) (old new : Reading) (w w' : Ahead) : Type
 
 -- ---- refusals
 
-pub no_memory : {X Y : Type 0} (f : Parse) (g : X → Parse) (h : Y → Parse) (a b : Reading) (w w' : Ahead) (x : X) → Reads f g a b w w' (Ok x) → CanGive b w' → Reads f h a b w w' (Err (Unread unread.OutOfMemory))
+pub no_memory : {X Y : Type 0} (f : Parse) (g : X → Parse) (h : Y → Parse) (a b : Reading) (w w' : Ahead) (x : X) → Reads f g a b w w' (Ok x) → CanGive b w' → Reads f h a b w w' (Err (SourceFailed unread.OutOfMemory))
 no_memory f g h a b w w' x (bytes, gives, answers) can = (bytes, gives, can.few)
 
-module _ (a b c : Reading) (w w1 w2 : Ahead) (e : Halt) where
-  pub values_stop : {A X : Type 0} (most : ℕ) (done : List ℕ) (g : (List ℕ → Parse) → X → Parse) (result : Result (Vec ℕ A) Halt) → IsErr result × IsErrAnd result (λ found. found ≡ e) → HasValues a b w w1 done
+module _ (a b c : Reading) (w w1 w2 : Ahead) (e : ReadStop) where
+  pub values_stop : {A X : Type 0} (most : ℕ) (done : List ℕ) (g : (List ℕ → Parse) → X → Parse) (result : Result (Vec ℕ A) ReadStop) → IsErr result × IsErrAnd result (λ found. found ≡ e) → HasValues a b w w1 done
       → ((next : List ℕ → Parse) → Reads (values_then next) (g next) b c w1 w2 (Err e)) → ReadsValues most a c w w2 result
   values_stop most done g (Ok x) is before stop = absurd (let ended = is.0 in let bad : ⊥ = cc in bad)
   values_stop {A = A} {X = X} most done g (Err found) is before stop = subst (λ s. ReadsValues {A = A} most a c w w2 (Err s)) (sym is.1) ([], reads, (tt {0}))
@@ -118,7 +118,7 @@ module _ (a b c : Reading) (w w1 w2 : Ahead) (e : Halt) where
           then_reads (values_then next) (λ (x : Unit {0}). values_then one) (λ (kept : Vec ℕ A). next []) a b c w w1 w2 (tt {0}) (Err e) (before.reads next)
           (refused_as (values_then one) (g one) (λ (kept : Vec ℕ A). next []) b c w1 w2 e (stop one))
 
-  pub steps_stop : {X Y : Type 0} (part : Section) (says : List Line → Y → Type 0) (done : List Line) (g : (List Line → reports.Reading reports.Report) → X → Parse) (result : Result Y Halt) → IsErr result × IsErrAnd result (λ found. found ≡ e)
+  pub steps_stop : {X Y : Type 0} (part : Section) (says : List Line → Y → Type 0) (done : List Line) (g : (List Line → reports.Reading reports.Report) → X → Parse) (result : Result Y ReadStop) → IsErr result × IsErrAnd result (λ found. found ≡ e)
       → HasSteps part a b w w1 done → ((next : List Line → reports.Reading reports.Report) → Reads (steps_then part w1.number next) (g next) b c w1 w2 (Err e)) → ReadsSteps part says a c w w2 result
   steps_stop part says done g (Ok y) is before stop = absurd (let ended = is.0 in let bad : ⊥ = cc in bad)
   steps_stop {X = X} {Y = Y} part says done g (Err found) is before stop = subst (λ s. ReadsSteps part says a c w w2 (Err s)) (sym is.1) ([], reads, (tt {0}))
@@ -135,6 +135,6 @@ module _ (part : Section) (a b c : Reading) (w w1 w2 : Ahead) (done : List Line)
   rest_read x y says of_steps (rest, reads, is) turn = (done ++ rest, other_steps part a b c w w1 w2 done before x y rest reads, turn rest)
 
   -- or they are not
-  pub rest_stop : {X Y : Type 0} (e : Halt) (says : List Line → X → Type 0) (of_steps : List Line → Y → Type 0) (result : Result X Halt) → IsErr result × IsErrAnd result (λ found. found ≡ e) → ReadsSteps part of_steps b c w1 w2 (Err e)
+  pub rest_stop : {X Y : Type 0} (e : ReadStop) (says : List Line → X → Type 0) (of_steps : List Line → Y → Type 0) (result : Result X ReadStop) → IsErr result × IsErrAnd result (λ found. found ≡ e) → ReadsSteps part of_steps b c w1 w2 (Err e)
       → ReadsSteps part says a c w w2 result
   rest_stop {Y = Y} e says of_steps result is (rest, reads, said) = steps_stop a b c w w1 w2 e part says done (λ next (y : Y) ls. next rest) result is before reads

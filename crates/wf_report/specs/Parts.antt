@@ -3,9 +3,9 @@ use Rattle.std.specs.Prelude.{◌≡◌, ◌≤◌, ◌+◌, ℕ, true, List, []
 use Rattle.wf_model.specs.Report as reports
 use Rattle.wf_model.specs.Report.{body_at, fixed_at, last_at, least_body, line, map_body, none_body, number_at, steps_from, then_read, values_at_front}
 use Rattle.wf_model.specs.Refutation.{Line}
-use Rattle.wf_io.specs.Seen.{Reading}
-use Rattle.wf_lines.specs.Lines.{line_of}
-use Rattle.wf_lines.specs.declared.line.Line as code
+use Rattle.wf_base.specs.Streams.Seen.{Reading}
+use Rattle.wf_base.specs.Lines.Lines.{line_of}
+use Rattle.wf_base.specs.declared.lines.line.Line as code
 use Rattle.wf_report.specs.Reports.{with_header}
 use Rattle.wf_report.specs.Steps.{step_in}
 use Rattle.wf_report.specs.declared.report.Header.{Header}
@@ -15,7 +15,7 @@ use Rattle.wf_report.specs.declared.front.AnswerKind.TheVariants.{Map, Nothing, 
 use Rattle.wf_report.specs.Limits.{most_report_lines}
 use Rattle.wf_report.specs.Reads.{Parse, Reads}
 use Rattle.wf_report.specs.Windows.{Ahead}
-use Rattle.wf_report.specs.declared.halt.Halt.{Halt}
+use Rattle.wf_report.specs.declared.halt.ReadStop.{ReadStop}
 
 -- line k is this word
 abbrev pub fixed_then : ℕ → List ℕ → Parse → Parse
@@ -81,11 +81,11 @@ PassesValue w w' None = w'.number ≡ w.number
 PassesValue w w' (Some a) = (w'.number ≡ w.number + 1) × (w.number ≤ most_report_lines)
 
 -- the first values, at most so many, are kept, and the lines of all are passed
-abbrev pub AreKept : {A : Type 0} → ℕ → Ahead → Ahead → List ℕ → Result (Vec ℕ A) Halt → Type 0
+abbrev pub AreKept : {A : Type 0} → ℕ → Ahead → Ahead → List ℕ → Result (Vec ℕ A) ReadStop → Type 0
 AreKept most w w' values (Ok kept) = (kept.items ≡ take most values) × (w'.number ≡ w.number + length values)
 AreKept most w w' values (Err e) = Unit {0}
 
-abbrev pub ReadsValues : {A : Type 0} → ℕ → Reading → Reading → Ahead → Ahead → Result (Vec ℕ A) Halt → Type 0
+abbrev pub ReadsValues : {A : Type 0} → ℕ → Reading → Reading → Ahead → Ahead → Result (Vec ℕ A) ReadStop → Type 0
 ReadsValues most old new w w' result =
     (values : List ℕ) × ((next : List ℕ → Parse) → Reads (values_then next) (λ kept. next values) old new w w' result)
     × AreKept most w w' values result
@@ -111,7 +111,7 @@ PassesStep w w' None = w'.ended ≡ true
 PassesStep w w' (Some l) = (w'.number ≡ w.number + 1) × (w.number ≤ most_report_lines)
 
 -- all steps up to the end were read
-abbrev pub ReadsSteps : {X : Type 0} → Section → (List Line → X → Type 0) → Reading → Reading → Ahead → Ahead → Result X Halt → Type 0
+abbrev pub ReadsSteps : {X : Type 0} → Section → (List Line → X → Type 0) → Reading → Reading → Ahead → Ahead → Result X ReadStop → Type 0
 ReadsSteps part says old new w w' result =
     (steps : List Line) × ((next : List Line → reports.Reading reports.Report) → Reads (steps_then part w.number next) (λ x ls. next steps) old new w w' result)
     × IfOk result (λ x. says steps x)
@@ -120,7 +120,7 @@ ReadsSteps part says old new w w' result =
 abbrev pub map_then : Section → (List ℕ → List Line → reports.Reading reports.Report) → ℕ → Parse
 map_then part next k = values_then (λ values. steps_then part (k + length values) (next values))
 
-abbrev pub ReadsMap : {X : Type 0} → Section → (List ℕ → List Line → X → Type 0) → Reading → Reading → Ahead → Ahead → Result X Halt
+abbrev pub ReadsMap : {X : Type 0} → Section → (List ℕ → List Line → X → Type 0) → Reading → Reading → Ahead → Ahead → Result X ReadStop
     → Type 0
 ReadsMap part says old new w w' result =
     (values : List ℕ) × (steps : List Line)
@@ -128,7 +128,7 @@ ReadsMap part says old new w w' result =
     × IfOk result (λ x. says values steps x)
 
 -- the same for a body with this answer
-abbrev pub ReadsBody : {X : Type 0} → AnswerKind → (reports.Body → X → Type 0) → Reading → Reading → Ahead → Ahead → Result X Halt → Type 0
+abbrev pub ReadsBody : {X : Type 0} → AnswerKind → (reports.Body → X → Type 0) → Reading → Reading → Ahead → Ahead → Result X ReadStop → Type 0
 ReadsBody answer says old new w w' result =
     (body : reports.Body) × ((next : reports.Body → reports.Reading reports.Report) → Reads (body_then next answer) (λ x ls. next body) old new w w' result)
     × IfOk result (λ x. says body x)

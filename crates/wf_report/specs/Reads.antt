@@ -2,12 +2,12 @@
 use Rattle.std.specs.Prelude.{◌≡◌, ◌<◌, ◌+◌, ℕ, true, List, [], ◌++◌, length, Result, Ok, Err}
 use Rattle.wf_model.specs.Report as reports
 use Rattle.wf_model.specs.Report.{lines_of}
-use Rattle.wf_io.specs.Seen.{Reading}
+use Rattle.wf_base.specs.Streams.Seen.{Reading}
 use Rattle.wf_report.specs.declared.fault.CertFault.TheVariants as amiss
 use Rattle.wf_report.specs.Limits.{most_report_lines}
 use Rattle.wf_report.specs.Windows.{Ahead, Gives, IsCutOff, failed_calls}
-use Rattle.wf_report.specs.declared.halt.Halt.{Halt}
-use Rattle.wf_report.specs.declared.halt.Halt.TheVariants.{Amiss, Unread}
+use Rattle.wf_report.specs.declared.halt.ReadStop.{ReadStop}
+use Rattle.wf_report.specs.declared.halt.ReadStop.TheVariants.{BadReport, SourceFailed}
 
 -- the report of the lines from somewhere on
 abbrev pub Parse : Type 0
@@ -41,13 +41,13 @@ HasTooManyLines w w' bytes = (more : List ℕ) → MayFollow w' more → most_re
 
 -- The report of the lines ahead is what comes of the result and the lines that are left then; or a
 -- line is bad, whatever follows; or there are too many lines.
-abbrev pub Answers : {X : Type 0} → Parse → (X → Parse) → Ahead → Ahead → List ℕ → Result X Halt → Type 0
+abbrev pub Answers : {X : Type 0} → Parse → (X → Parse) → Ahead → Ahead → List ℕ → Result X ReadStop → Type 0
 Answers before after w w' bytes (Ok x) = Continues before (after x) w w' bytes × Counts w w' bytes
-Answers before after w w' bytes (Err (Amiss (amiss.Syntax k))) = Continues before (λ ls. Err k) w w' bytes
-Answers before after w w' bytes (Err (Amiss amiss.TooLong)) = HasTooManyLines w w' bytes
-Answers before after w w' bytes (Err (Amiss e)) = ⊥
-Answers before after w w' bytes (Err (Unread e)) = IsCutOff e w'
+Answers before after w w' bytes (Err (BadReport (amiss.Syntax k))) = Continues before (λ ls. Err k) w w' bytes
+Answers before after w w' bytes (Err (BadReport amiss.TooLong)) = HasTooManyLines w w' bytes
+Answers before after w w' bytes (Err (BadReport e)) = ⊥
+Answers before after w w' bytes (Err (SourceFailed e)) = IsCutOff e w'
 
-abbrev pub Reads : {X : Type 0} → Parse → (X → Parse) → Reading → Reading → Ahead → Ahead → Result X Halt → Type 0
+abbrev pub Reads : {X : Type 0} → Parse → (X → Parse) → Reading → Reading → Ahead → Ahead → Result X ReadStop → Type 0
 Reads before after old new w w' result =
     (bytes : List ℕ) × Gives old new w w' bytes (failed_calls result) × Answers before after w w' bytes result

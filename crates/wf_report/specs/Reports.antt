@@ -2,7 +2,7 @@
 use Rattle.std.specs.Prelude.{◌≡◌, ℕ, ◌+◌, ◌^◌, ◌<◌, length, map}
 use Rattle.wf_model.specs.Task.{Task}
 use Rattle.wf_model.specs.Report as report
-use Rattle.wf_lines.specs.Lines.{line_of}
+use Rattle.wf_base.specs.Lines.Lines.{line_of}
 use Rattle.wf_report.specs.declared.report.Header.{Header}
 use Rattle.wf_report.specs.declared.report.Report.{Report}
 use Rattle.wf_report.specs.declared.report.Body.{Body}

@@ -1,15 +1,15 @@
 -- A window on the text that a source gives, and what stands at its front.
 use Rattle.std.specs.Prelude.{◌≡◌, ◌<◌, ◌≤◌, ◌+◌, ◌-◌, ◌^◌, ◌⊎◌, ℕ, Bool, true, false, List, [], ◌∷◌, ◌++◌, length, take, drop, MatchResult, OnOk, Result, Ok, Err}
 use Rattle.std.specs.Io.KnownBytes.{IsAtEnd}
-use Rattle.wf_io.specs.Seen.{Reading}
-use Rattle.wf_io.specs.Texts.{Gave}
-use Rattle.wf_io.specs.declared.source.ReadFault.{ReadFault}
-use Rattle.wf_io.specs.declared.source.ReadFault.TheVariants.{TooLong, OutOfMemory, Read}
+use Rattle.wf_base.specs.Streams.Seen.{Reading}
+use Rattle.wf_base.specs.Streams.Texts.{Gave}
+use Rattle.wf_base.specs.declared.streams.source.ReadFault.{ReadFault}
+use Rattle.wf_base.specs.declared.streams.source.ReadFault.TheVariants.{TooLong, OutOfMemory, Read}
 use Rattle.wf_report.specs.Reading.{lacks}
 use Rattle.wf_report.specs.declared.fault.CertFault.TheVariants as amiss
 use Rattle.wf_report.specs.Limits.{most_report_bytes, most_report_lines}
-use Rattle.wf_report.specs.declared.halt.Halt.{Halt}
-use Rattle.wf_report.specs.declared.halt.Halt.TheVariants.{Amiss, Unread}
+use Rattle.wf_report.specs.declared.halt.ReadStop.{ReadStop}
+use Rattle.wf_report.specs.declared.halt.ReadStop.TheVariants.{BadReport, SourceFailed}
 use Rattle.wf_report.specs.declared.window.AtFront.{AtFront}
 use Rattle.wf_report.specs.declared.window.AtFront.TheVariants.{Line, Bad, End}
 
@@ -78,10 +78,10 @@ abbrev pub failed_reads : {X : Type 0} → Result X ReadFault → ℕ
 failed_reads (Ok x) = 0
 failed_reads (Err e) = failed_by e
 
-abbrev pub failed_calls : {X : Type 0} → Result X Halt → ℕ
+abbrev pub failed_calls : {X : Type 0} → Result X ReadStop → ℕ
 failed_calls (Ok x) = 0
-failed_calls (Err (Amiss e)) = 0
-failed_calls (Err (Unread e)) = failed_by e
+failed_calls (Err (BadReport e)) = 0
+failed_calls (Err (SourceFailed e)) = failed_by e
 
 -- how many bytes were given, where a text is not read to its end
 abbrev pub IsCutOff : ReadFault → Ahead → Type 0
@@ -174,12 +174,12 @@ abbrev pub IsPastLimit : Ahead → Ahead → List ℕ → Type 0
 IsPastLimit w w' bytes =
     (w'.pending ≡ w.pending ++ bytes) × (w'.number ≡ w.number) × (most_report_lines < w.number) × (0 < length w'.pending)
 
-abbrev pub IsFound : Ahead → Ahead → List ℕ → Result AtFront Halt → Type 0
+abbrev pub IsFound : Ahead → Ahead → List ℕ → Result AtFront ReadStop → Type 0
 IsFound w w' bytes (Ok found) =
     (w'.pending ≡ w.pending ++ bytes) × (w'.number ≡ w.number) × IsFront found w' × IsNumbered found w'
-IsFound w w' bytes (Err (Amiss amiss.TooLong)) = IsPastLimit w w' bytes
-IsFound w w' bytes (Err (Amiss e)) = ⊥
-IsFound w w' bytes (Err (Unread e)) = IsCutShort e w w' bytes
+IsFound w w' bytes (Err (BadReport amiss.TooLong)) = IsPastLimit w w' bytes
+IsFound w w' bytes (Err (BadReport e)) = ⊥
+IsFound w w' bytes (Err (SourceFailed e)) = IsCutShort e w w' bytes
 
-abbrev pub Finds : Reading → Reading → Ahead → Ahead → Result AtFront Halt → Type 0
+abbrev pub Finds : Reading → Reading → Ahead → Ahead → Result AtFront ReadStop → Type 0
 Finds old new w w' result = (bytes : List ℕ) × Gives old new w w' bytes (failed_calls result) × IsFound w w' bytes result

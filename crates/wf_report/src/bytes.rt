@@ -1,13 +1,13 @@
-//! Pieces of a text, and numbers.
+//! Splitting text at a byte, and reading decimal numbers.
 
 ghost use Rattle.std.specs.Prelude.{◌≡◌, ◌<◌, ◌++◌, ◌∷◌, true, MatchOption};
 ghost use Rattle.wf_model.specs.Report.{number_upto};
 ghost use Rattle.wf_report.specs.Numbers.{digits_upto, is_misspelt};
 ghost use Rattle.wf_report.specs.Reading.{lacks};
 
-/// What stands before the first such byte, and what stands behind it; `None`
-/// where it stands nowhere.
-pub fn cut(text: &[u8], byte: u8) -> Option<(&[u8], &[u8])>
+/// Splits `text` at the first occurrence of `byte`, and returns the parts before and after it, like
+/// [`str::split_once`]. Returns `None` if `text` does not contain `byte`.
+pub fn split_once(text: &[u8], byte: u8) -> Option<(&[u8], &[u8])>
     ensures cases { MatchOption result (lacks byte text.now ≡ true) (λ parts.
         (text.now ≡ parts.0.now ++ byte ∷ parts.1.now) × (lacks byte parts.0.now ≡ true)) }
 {
@@ -19,18 +19,20 @@ pub fn cut(text: &[u8], byte: u8) -> Option<(&[u8], &[u8])>
     None
 }
 
-/// The number that a word spells, if it is at most this: decimal, without
-/// sign and without a 0 before another digit.
+/// Parses `word` as a decimal number of at most `most`.
+///
+/// Returns `None` if the number is larger, the word is empty, or it has a sign or a leading zero.
 pub fn number(word: &[u8], most: u32) -> Option<u32>
     ensures { result ≡ number_upto most word.now }
 {
-    if is_misspelt(word) {
+    if is_empty_or_zero_led(word) {
         return None;
     }
     digits(word, most)
 }
 
-/// The number of these digits, if it is at most this.
+/// Parses the decimal digits of `word` as a number of at most `most`. Leading zeros are allowed,
+/// and an empty word is 0. Returns `None` for a byte that is no digit, and for a larger number.
 fn digits(word: &[u8], most: u32) -> Option<u32>
     ensures { result ≡ digits_upto most 0 word.now }
 {
@@ -47,8 +49,8 @@ fn digits(word: &[u8], most: u32) -> Option<u32>
     Some(number as u32)
 }
 
-/// Whether there is nothing, or a 0 before another byte.
-fn is_misspelt(word: &[u8]) -> bool
+/// Returns whether `word` is empty, or has a leading zero before another byte.
+fn is_empty_or_zero_led(word: &[u8]) -> bool
     ensures { result ≡ is_misspelt word.now }
 {
     word.is_empty() || (word[0] == b'0' && word.len() > 1)

@@ -1,35 +1,35 @@
-//! Why the lines of a report are not read on.
+//! The reasons why reading a report stops early.
 
 ghost use Rattle.std.specs.Prelude.{◌≡◌};
-ghost use Rattle.wf_io.specs.declared.source.ReadFault.TheVariants.{OutOfMemory};
-ghost use Rattle.wf_report.specs.declared.halt.Halt.TheVariants.{Unread};
+ghost use Rattle.wf_base.specs.declared.streams.source.ReadFault.TheVariants.{OutOfMemory};
+ghost use Rattle.wf_report.specs.declared.halt.ReadStop.TheVariants.{SourceFailed};
 
 use crate::fault::CertFault;
 use std::alloc::AllocError;
-use wf_io::ReadFault;
+use wf_base::streams::ReadFault;
 
-/// Why the lines of a report are not read on.
+/// A reason why the lines of a report are not read any further.
 #[derive(Clone, Copy, Debug)]
-pub enum Halt {
-    /// The text is no report, whatever comes behind: a line is bad, or there are too many. The rest
-    /// of the text is still to be read.
-    Amiss(CertFault),
-    /// The text can't be read to its end.
-    Unread(ReadFault),
+pub enum ReadStop {
+    /// The text is no report, whatever follows: a line is malformed, or there are too many. The
+    /// rest of the text was not read; see [`Window::drain`](crate::Window::drain).
+    BadReport(CertFault),
+    /// The text can't be read to its end: a read failed, the text is too long, or memory ran out.
+    SourceFailed(ReadFault),
 }
 
-impl From<ReadFault> for Halt {
-    ghost from_gives = { λ fault stop. stop ≡ Unread fault };
+impl From<ReadFault> for ReadStop {
+    ghost from_gives = { λ fault stop. stop ≡ SourceFailed fault };
 
-    fn from(fault: ReadFault) -> Halt {
-        Halt::Unread(fault)
+    fn from(fault: ReadFault) -> ReadStop {
+        ReadStop::SourceFailed(fault)
     }
 }
 
-impl From<AllocError> for Halt {
-    ghost from_gives = { λ _ stop. stop ≡ Unread OutOfMemory };
+impl From<AllocError> for ReadStop {
+    ghost from_gives = { λ _ stop. stop ≡ SourceFailed OutOfMemory };
 
-    fn from(_refused: AllocError) -> Halt {
-        Halt::Unread(ReadFault::OutOfMemory)
+    fn from(_refused: AllocError) -> ReadStop {
+        ReadStop::SourceFailed(ReadFault::OutOfMemory)
     }
 }

@@ -1,23 +1,18 @@
-//! Reports: what is written about a task and a number of rounds, as a text and read back from it.
+//! Reports: the answer to a question about a task and a number of rounds, written as a text and
+//! read back.
 //!
-//! - [`Report`]: a [`Header`], which says what it is about, and a [`Body`],
-//!   which says what is answered.
-//! - [`write_report`], [`read_report`]: from a report to its text, and from a text to its report.
-//! - [`CertFault`]: why a text is no report, or why a report is not accepted.
-//! - [`cut`] and [`number`]: what stands before a byte and behind it, and the number that a word
-//!   spells.
-//! - [`number_behind`], [`value_of`] and [`step_in`]: what one line says, in the header, in a map
-//!   and in each other [`Section`].
+//! - [`Report`] has a [`Header`], which says what the report is about, and a [`Body`], its answer.
+//! - [`write_report`] and [`read_report`] convert between reports and texts in memory. Begin here.
+//! - [`CertFault`] is the reason for refusing a report.
+//! - [`Window`] reads a report in pieces, which may be longer than memory. [`read_header`],
+//!   [`read_answer`], [`read_values`] and [`next_step`] read its lines from front to end;
+//!   [`skim_body`] and [`skim_steps`] read lines without keeping any. [`ReadStop`] is the reason
+//!   for stopping early.
+//! - [`number_after`], [`value_of`] and [`step_in`] parse one line, [`split_once`] and [`number`]
+//!   parts of it.
 //!
-//! A source may give a report in pieces, and the report may be longer than memory:
-//!
-//! - [`Window`]: one piece of the text, and [`Halt`]: why it is not read on.
-//! - [`read_header`], [`read_answer`]: the first lines, and which answer it is.
-//! - [`read_values`], [`next_step`]: the values of a map, and the lines of a search one by one.
-//! - [`skim_body`], [`skim_steps`]: the lines up to the end are read, and nothing is found of them.
-//!
-//! The laws say that the text of a report in the grammar is read as that report, and that what is
-//! read as a report is its text.
+//! The laws say that reading a written report returns it, and that a text is read as a report only
+//! if it is that report's text.
 #![tactic(auto)]
 
 mod bytes;
@@ -32,15 +27,15 @@ mod skim;
 mod window;
 mod writing;
 
-pub use bytes::{cut, number};
+pub use bytes::{number, split_once};
 pub use fault::CertFault;
 pub use front::{AnswerKind, read_answer, read_header};
-pub use halt::Halt;
+pub use halt::ReadStop;
 pub use laws::{reports_are_read_as_written, reports_are_written_as_read};
 pub use lines::{next_step, read_values};
-pub use reading::{FIRST_LINE, Section, number_behind, read_report, step_in, value_of};
+pub use reading::{FIRST_LINE, Section, number_after, read_report, step_in, value_of};
 pub use report::{Body, Header, Report};
 pub use skim::{skim_body, skim_steps};
-pub use wf_task::LONGEST;
-pub use window::{AtFront, MOST_REPORT_BYTES, MOST_REPORT_LINES, Window};
+pub use wf_task::MAX_TEXT_BYTES;
+pub use window::{AtFront, MAX_REPORT_BYTES, MAX_REPORT_LINES, Window};
 pub use writing::write_report;

@@ -1,49 +1,54 @@
-//! Reading the text of a report, line by line.
+//! Reading a report from a text in memory, line by line.
 
 ghost use Rattle.std.specs.Prelude.{◌≡◌, ◌==◌, ◌+◌, ◌<◌, ◌≤◌, ◌++◌, ◌∷◌, [], true, codes, length, map, option_map, IfOk, OnOk};
 ghost use Rattle.wf_model.specs.Limits.{most_number};
 ghost use Rattle.wf_model.specs.Report.{any_step, body_at, fixed_at, least_body, line, lines_of, map_body, none_body, number_at, number_of_line, number_upto, step_of_words, steps_from, value_of_line, values_at_front};
 ghost use Rattle.wf_model.specs.Refutation.{branch, empty};
-ghost use Rattle.wf_lines.specs.Lines.{line_of};
+ghost use Rattle.wf_base.specs.Lines.Lines.{line_of};
 ghost use Rattle.wf_report.specs.Reading.{Gives, IsRead, lacks};
 ghost use Rattle.wf_report.specs.Reports.{AreNumbered, body_length, body_of};
 ghost use Rattle.wf_report.specs.Steps.{removal_of, step_in, words};
 
-use crate::bytes::{cut, number};
+use crate::bytes::{number, split_once};
 use crate::fault::CertFault;
 use crate::report::{Body, Header, Report};
 use std::alloc::{AllocError, Global};
-use wf_lines::{Line, Lines};
-use wf_task::LONGEST;
+use wf_base::lines::{Line, Lines};
+use wf_task::MAX_TEXT_BYTES;
 
-/// The number of the first line of a body, behind the header and the line
-/// that says which answer it is.
+/// The 1-based number of the first line of a body: it follows the five lines of the header and the
+/// answer line.
 pub const FIRST_LINE: u32 = 7;
 
-/// The largest value.
-const LARGEST: u32 = 255;
+/// The largest value that a line may name.
+const LARGEST_VALUE: u32 = 255;
 
-/// The last process.
+/// The largest process that a line may name.
 const LAST_PROCESS: u32 = 3;
 
-/// What a line stands in.
+/// The section of a report in which a line stands. It decides what kinds of lines may come.
 #[derive(Clone, Copy, Debug)]
 pub enum Section {
-    /// The values of a map, which no step follows.
+    /// The lines after `answer map`. After its values only `end` may come.
     Values,
-    /// A refutation.
+    /// The lines after `answer none`: removals, empty points and branchings.
     Refutation,
-    /// A search up to its map, which a line of its own ends.
+    /// The lines after `answer least` and the map's values: as in a refutation, and the line `f`
+    /// that ends the search.
     Search,
 }
 
-/// The report of a text, or the first line that is not as it should be. A text of more than
-/// 16,777,216 bytes is refused before it is looked at.
+/// Parses `text` as a report. It checks the grammar only, not whether the answer is true.
+///
+/// # Errors
+///
+/// Returns `TooLong` if `text` has more than 16,777,216 bytes, `Syntax` with the 1-based number of
+/// the first line that is malformed, and `OutOfMemory` if memory runs out.
 pub fn read_report(alloc: Global, text: &[u8]) -> Result<Report, CertFault>
     ensures read { IsRead result text.now }
     ensures few { IfOk result (λ report. AreNumbered (body_length report.body)) }
 {
-    if text.len() > LONGEST {
+    if text.len() > MAX_TEXT_BYTES {
         return Err(CertFault::TooLong);
     }
     let rest = read_fixed(text, 1, b"wfcheck report 1")?;
@@ -61,13 +66,18 @@ pub fn read_report(alloc: Global, text: &[u8]) -> Result<Report, CertFault>
     Ok(Report { header, body })
 }
 
-/// What stands behind the first line, which has to be this one.
+/// Returns the text after the first line of `text`, which must be `wanted`. `at` is the line's
+/// number.
+///
+/// # Errors
+///
+/// Fails with `Syntax(at)` if the line is another one, or has no line feed.
 fn read_fixed<'a>(text: &'a [u8], at: u32, wanted: &[u8]) -> Result<&'a [u8], CertFault>
     ensures rest { let read = fixed_at at (line wanted.now []) (lines_of text.now) in
         Gives (λ rest. lines_of rest.now) result read }
     ensures shorter { IfOk result (λ rest. length rest.now < length text.now) }
 {
-    let Some((found, rest)) = cut(text, b'\n') else {
+    let Some((found, rest)) = split_once(text, b'\n') else {
         return Err(CertFault::Syntax(at));
     };
     if found != wanted {
@@ -76,7 +86,12 @@ fn read_fixed<'a>(text: &'a [u8], at: u32, wanted: &[u8]) -> Result<&'a [u8], Ce
     Ok(rest)
 }
 
-/// The number of the first line, which has to be this word and a number, and what stands behind it.
+/// Returns the number in the first line of `text`, which must be `name`, a space and a number, and
+/// the text after it. `at` is the line's number.
+///
+/// # Errors
+///
+/// Fails with `Syntax(at)` for any other line.
 fn read_number<'a>(text: &'a [u8], at: u32, name: &[u8]) -> Result<(u32, &'a [u8]), CertFault>
     requires name { lacks 32 name.now ≡ true }
     requires word { lacks 10 name.now ≡ true }
@@ -84,22 +99,22 @@ fn read_number<'a>(text: &'a [u8], at: u32, name: &[u8]) -> Result<(u32, &'a [u8
         Gives (λ p. (p.0, lines_of p.1.now)) result read }
     ensures shorter { IfOk result (λ p. length p.1.now < length text.now) }
 {
-    let Some((found, rest)) = cut(text, b'\n') else {
+    let Some((found, rest)) = split_once(text, b'\n') else {
         return Err(CertFault::Syntax(at));
     };
-    let Some(number) = number_behind(found, name) else {
+    let Some(number) = number_after(found, name) else {
         return Err(CertFault::Syntax(at));
     };
     Ok((number, rest))
 }
 
-/// The number of a line that is this word and a number. Here and below a line is given without its
-/// line feed.
-pub fn number_behind(line: &[u8], name: &[u8]) -> Option<u32>
+/// Parses `line`, given without its line feed, as `name`, a space and a number of at most
+/// 4,294,967,295. Returns `None` for any other line.
+pub fn number_after(line: &[u8], name: &[u8]) -> Option<u32>
     requires { lacks 10 line.now ≡ true }
     ensures { result ≡ number_of_line name.now (line.now ++ 10 ∷ []) }
 {
-    let Some((word, rest)) = cut(line, b' ') else {
+    let Some((word, rest)) = split_once(line, b' ') else {
         return None;
     };
     if word != name {
@@ -108,13 +123,13 @@ pub fn number_behind(line: &[u8], name: &[u8]) -> Option<u32>
     number(rest, u32::MAX)
 }
 
-/// The body, from line 6 on.
+/// Parses the answer line and the lines after it as the body of a report.
 fn read_body(alloc: Global, text: &[u8]) -> Result<Body, CertFault>
-    requires { length text.now ≤ LONGEST }
+    requires { length text.now ≤ MAX_TEXT_BYTES }
     ensures body { Gives body_of result (body_at (lines_of text.now)) }
-    ensures few { IfOk result (λ body. body_length body ≤ LONGEST) }
+    ensures few { IfOk result (λ body. body_length body ≤ MAX_TEXT_BYTES) }
 {
-    let Some((found, rest)) = cut(text, b'\n') else {
+    let Some((found, rest)) = split_once(text, b'\n') else {
         return Err(CertFault::Syntax(FIRST_LINE - 1));
     };
     if found == b"answer map".as_slice() {
@@ -129,11 +144,11 @@ fn read_body(alloc: Global, text: &[u8]) -> Result<Body, CertFault>
     Err(CertFault::Syntax(FIRST_LINE - 1))
 }
 
-/// The values of a map, up to the end of the text.
+/// Parses the rest of a report after `answer map`: values, then `end`.
 fn read_map(alloc: Global, text: &[u8]) -> Result<Body, CertFault>
-    requires { length text.now ≤ LONGEST }
+    requires { length text.now ≤ MAX_TEXT_BYTES }
     ensures map { Gives body_of result (map_body (lines_of text.now)) }
-    ensures few { IfOk result (λ body. body_length body ≤ LONGEST) }
+    ensures few { IfOk result (λ body. body_length body ≤ MAX_TEXT_BYTES) }
 {
     let (values, rest) = read_values(alloc, text)?;
     let at = FIRST_LINE + values.len() as u32;
@@ -141,21 +156,21 @@ fn read_map(alloc: Global, text: &[u8]) -> Result<Body, CertFault>
     Ok(Body::Map(values))
 }
 
-/// The lines of a refutation, up to the end of the text.
+/// Parses the rest of a report after `answer none`: the lines of a refutation, then `end`.
 fn read_refutation(alloc: Global, text: &[u8]) -> Result<Body, CertFault>
-    requires { length text.now ≤ LONGEST }
+    requires { length text.now ≤ MAX_TEXT_BYTES }
     ensures lines { Gives body_of result (none_body (lines_of text.now)) }
-    ensures few { IfOk result (λ body. body_length body ≤ LONGEST) }
+    ensures few { IfOk result (λ body. body_length body ≤ MAX_TEXT_BYTES) }
 {
     let lines = read_lines(alloc, text, FIRST_LINE, Section::Refutation)?;
     Ok(Body::Nothing(lines))
 }
 
-/// The values of the least map and the lines that lead to it, up to the end of the text.
+/// Parses the rest of a report after `answer least`: values, the lines of a search, then `end`.
 fn read_least(alloc: Global, text: &[u8]) -> Result<Body, CertFault>
-    requires { length text.now ≤ LONGEST }
+    requires { length text.now ≤ MAX_TEXT_BYTES }
     ensures least { Gives body_of result (least_body (lines_of text.now)) }
-    ensures few { IfOk result (λ body. body_length body ≤ LONGEST) }
+    ensures few { IfOk result (λ body. body_length body ≤ MAX_TEXT_BYTES) }
 {
     let (values, rest) = read_values(alloc, text)?;
     let at = FIRST_LINE + values.len() as u32;
@@ -163,7 +178,8 @@ fn read_least(alloc: Global, text: &[u8]) -> Result<Body, CertFault>
     Ok(Body::Least(values, lines))
 }
 
-/// The values of the lines up to the first that has none, and the text from that line on.
+/// Returns the values in the leading lines `m A` of `text`, and the text from the first other line
+/// on.
 fn read_values<'a>(alloc: Global, text: &'a [u8]) -> Result<(Vec<u8>, &'a [u8]), AllocError>
     ensures front { IfOk result (λ r.
         values_at_front (lines_of text.now) ≡ (r.0.items, lines_of r.1.now)) }
@@ -171,7 +187,7 @@ fn read_values<'a>(alloc: Global, text: &'a [u8]) -> Result<(Vec<u8>, &'a [u8]),
 {
     let mut values = Vec::new(alloc);
     let mut rest = text;
-    'lines: while let Some((found, others)) = cut(rest, b'\n') {
+    'lines: while let Some((found, others)) = split_once(rest, b'\n') {
         let Some(value) = value_of(found) else {
             return Ok((values, rest));
         };
@@ -181,9 +197,15 @@ fn read_values<'a>(alloc: Global, text: &'a [u8]) -> Result<(Vec<u8>, &'a [u8]),
     Ok((values, rest))
 }
 
-/// The lines from this one on, up to the end of the text.
+/// Parses the lines of `text` up to `end`, which must be its last line. `first` is the number of
+/// its first line, and `part` says which lines may come.
+///
+/// # Errors
+///
+/// Fails with `Syntax` and the number of the first line that is malformed, missing, or follows
+/// `end`.
 fn read_lines(alloc: Global, text: &[u8], first: u32, part: Section) -> Result<Lines, CertFault>
-    requires { first + length text.now ≤ FIRST_LINE + LONGEST }
+    requires { first + length text.now ≤ FIRST_LINE + MAX_TEXT_BYTES }
     ensures lines { let read = steps_from (step_in part) first (lines_of text.now) in
         Gives (λ lines. map line_of lines.items) result read }
     ensures few { IfOk result (λ lines. length lines.items ≤ length text.now) }
@@ -191,7 +213,7 @@ fn read_lines(alloc: Global, text: &[u8], first: u32, part: Section) -> Result<L
     let mut lines = Vec::new(alloc);
     let mut rest = text;
     let mut at = first;
-    'lines: while let Some((found, others)) = cut(rest, b'\n') {
+    'lines: while let Some((found, others)) = split_once(rest, b'\n') {
         if found == b"end".as_slice() {
             if !is_end(others) {
                 return Err(CertFault::Syntax(at + 1));
@@ -208,14 +230,14 @@ fn read_lines(alloc: Global, text: &[u8], first: u32, part: Section) -> Result<L
     Err(CertFault::Syntax(at))
 }
 
-/// Whether nothing stands behind the last line.
+/// Returns whether `behind`, the text after the line `end`, is empty.
 fn is_end(behind: &[u8]) -> bool
     ensures { result ≡ (length behind.now == 0) }
 {
     behind.is_empty()
 }
 
-/// Adds one more.
+/// Appends the item `one` to `list`.
 fn put<T: Drop>(list: &mut Vec<T>, one: T) -> Result<(), AllocError>
     ensures { OnOk result (list.new.items ≡ list.old.items ++ one ∷ []) }
 {
@@ -223,19 +245,21 @@ fn put<T: Drop>(list: &mut Vec<T>, one: T) -> Result<(), AllocError>
     Ok(())
 }
 
-/// The value of a line of a map.
+/// Parses `line`, given without its line feed, as the line `m A` of a map, with a value of at most
+/// 255.
 pub fn value_of(line: &[u8]) -> Option<u8>
     requires { lacks 10 line.now ≡ true }
     ensures { result ≡ value_of_line (line.now ++ 10 ∷ []) }
 {
-    let value = number_behind(line, b"m")?;
-    if value > LARGEST {
+    let value = number_after(line, b"m")?;
+    if value > LARGEST_VALUE {
         return None;
     }
     Some(value as u8)
 }
 
-/// The step of a line, if it may stand in this part of a report.
+/// Parses `line`, given without its line feed, as a line of a refutation or a search. Returns
+/// `None` if it is malformed, or may not stand in `part`.
 pub fn step_in(part: Section, line: &[u8]) -> Option<Line>
     requires { lacks 10 line.now ≡ true }
     ensures { option_map line_of result ≡ step_in part (line.now ++ 10 ∷ []) }
@@ -247,12 +271,12 @@ pub fn step_in(part: Section, line: &[u8]) -> Option<Line>
     }
 }
 
-/// The step of a line.
+/// Parses `line` as any of the lines `p`, `z`, `b` and `f`.
 fn step_of(line: &[u8]) -> Option<Line>
     requires { lacks 10 line.now ≡ true }
     ensures { option_map line_of result ≡ any_step (line.now ++ 10 ∷ []) }
 {
-    let Some((name, rest)) = cut(line, b' ') else {
+    let Some((name, rest)) = split_once(line, b' ') else {
         return end_of(line);
     };
     if name == b"p".as_slice() {
@@ -267,7 +291,7 @@ fn step_of(line: &[u8]) -> Option<Line>
     None
 }
 
-/// The step of a line that is one word.
+/// Parses a line without a space, which can only be `f`: the map was found.
 fn end_of(word: &[u8]) -> Option<Line>
     ensures { option_map line_of result ≡ step_of_words (word.now ∷ []) }
 {
@@ -277,7 +301,8 @@ fn end_of(word: &[u8]) -> Option<Line>
     None
 }
 
-/// The line that says that the point of this number is empty.
+/// Parses `point`, the rest of a line `z V`, as the line that says that this point has no
+/// candidate.
 fn empty_of(point: &[u8]) -> Option<Line>
     ensures { option_map line_of result ≡ option_map empty (number_upto most_number point.now) }
 {
@@ -285,7 +310,7 @@ fn empty_of(point: &[u8]) -> Option<Line>
     Some(Line::Empty { point })
 }
 
-/// The line that branches at the point of this number.
+/// Parses `point`, the rest of a line `b V`, as the line that branches at this point.
 fn branch_of(point: &[u8]) -> Option<Line>
     ensures { option_map line_of result ≡ option_map branch (number_upto most_number point.now) }
 {
@@ -293,26 +318,28 @@ fn branch_of(point: &[u8]) -> Option<Line>
     Some(Line::Branch { point })
 }
 
-/// The removal of these words, which are parted by spaces: an execution, a process and a value.
+/// Parses `numbers`, the rest of a line `p E C A`, as a removal: an execution, a process and a
+/// value.
 fn removal_of(numbers: &[u8]) -> Option<Line>
     ensures { option_map line_of result ≡ step_of_words (codes "p" ∷ words numbers.now) }
 {
-    let Some((execution, rest)) = cut(numbers, b' ') else {
+    let Some((execution, rest)) = split_once(numbers, b' ') else {
         return None;
     };
-    let Some((process, value)) = cut(rest, b' ') else {
+    let Some((process, value)) = split_once(rest, b' ') else {
         return None;
     };
     removal(execution, process, value)
 }
 
-/// The removal of these three words.
+/// Returns the removal that the words `execution`, `process` and `value` spell. Returns `None` if
+/// one is no number, or too large.
 fn removal(execution: &[u8], process: &[u8], value: &[u8]) -> Option<Line>
     ensures { option_map line_of result ≡ removal_of execution.now process.now value.now }
 {
     Some(Line::Remove {
         execution: number(execution, u32::MAX)?,
         process: number(process, LAST_PROCESS)? as u8,
-        value: number(value, LARGEST)? as u8,
+        value: number(value, LARGEST_VALUE)? as u8,
     })
 }

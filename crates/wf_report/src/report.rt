@@ -1,13 +1,13 @@
-//! A report.
+//! The parts of a report.
 
 ghost use Rattle.wf_complex.specs.Protocol.{IsProtocol};
 ghost use Rattle.wf_report.specs.Reports.{IsHeaderOf};
 
+use wf_base::lines::Lines;
 use wf_complex::Protocol;
-use wf_lines::Lines;
 use wf_task::Task;
 
-/// What a report is about: the numbers of a task and its protocol complex.
+/// The header of a report: four counts that identify the task and its protocol complex.
 #[derive(Clone, Copy, Debug, PartialEq, Eq)]
 pub struct Header {
     /// The number of processes of the task.
@@ -16,33 +16,34 @@ pub struct Header {
     pub rounds: u32,
     /// The number of points of the protocol complex.
     pub points: u32,
-    /// The number of its executions.
+    /// The number of executions of the protocol complex.
     pub executions: u32,
 }
 
-/// What a report answers.
+/// The answer of a report, with the values and lines that show it.
 #[derive(Debug, Drop)]
 pub enum Body {
     /// A decision map: the value of each point, in the order of the points.
     Map(Vec<u8>),
-    /// None, by the lines of a refutation. In the verdict form the lines are left out.
+    /// No decision map exists, by the lines of a refutation. There are no lines in the verdict
+    /// form.
     Nothing(Lines),
-    /// The least decision map, and the lines that lead to it: those of a search of the root up to
-    /// the map, in which all smaller candidates are refuted.
+    /// The least decision map, and the lines of a search from the root to the map, in which all
+    /// smaller candidates are refuted.
     Least(Vec<u8>, Lines),
 }
 
-/// A report.
+/// A report about a task and a number of rounds.
 #[derive(Debug, Drop)]
 pub struct Report {
-    /// What it is about.
+    /// The counts of the task and its protocol complex.
     pub header: Header,
-    /// What it answers.
+    /// The answer, with the values and lines that show it.
     pub body: Body,
 }
 
 impl Header {
-    /// The header of each report about a task and its protocol complex.
+    /// Returns the header of any report about `task` and its `protocol` complex.
     pub fn about(task: &Task, protocol: &Protocol) -> Header
         requires { IsProtocol task.now protocol.now.rounds protocol.now }
         ensures { IsHeaderOf task.now protocol.now.rounds result }

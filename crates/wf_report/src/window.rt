@@ -1,54 +1,57 @@
-//! A window on the text of a report, which a source gives in pieces.
+//! A window on the text of a report, which is read from a source in pieces.
 
 ghost use Rattle.std.specs.Prelude.{◌≡◌, ◌+◌, ◌++◌, ◌-◌, ◌^◌, ◌<◌, ◌≤◌, false, IfErr, IfOk, MatchOption, OnOk, length, slice_range, take};
-ghost use Rattle.wf_io.specs.Texts.{bytes_of};
-ghost use Rattle.wf_io.specs.declared.source.ReadFault.TheVariants.{OutOfMemory};
+ghost use Rattle.wf_base.specs.Streams.Texts.{bytes_of};
+ghost use Rattle.wf_base.specs.declared.streams.source.ReadFault.TheVariants.{OutOfMemory};
 ghost use Rattle.wf_report.specs.Windows.{CanGive, Collects, Drains, Fills, Finds, IsFront, IsLineAt, IsShort, ReadsBehind, Seeks, longest_line, passed, untouched, with_most, without_pending};
 
-use crate::bytes::cut;
+use crate::bytes::split_once;
 use crate::fault::CertFault;
-use crate::halt::Halt;
+use crate::halt::ReadStop;
 use std::alloc::{AllocError, Global};
 use std::io;
 use std::io::Read;
 use std::marker::Model;
-use wf_io::{ReadFault, Source};
+use wf_base::streams::{ReadFault, Source};
 
-/// The most bytes that the text of a report may have, whatever its reader allows.
-pub const MOST_REPORT_BYTES: u64 = 1 << 62;
+/// The largest number of bytes that a report may have, whatever limit its reader sets.
+pub const MAX_REPORT_BYTES: u64 = 1 << 62;
 
-/// The most lines that a report may have. A shorter text than 2^31 bytes has fewer.
-pub const MOST_REPORT_LINES: u32 = 2_147_483_647;
+/// The largest number of lines that a report may have. A text of fewer than 2^31 bytes can't reach
+/// it.
+pub const MAX_REPORT_LINES: u32 = 2_147_483_647;
 
-/// how many bytes the window has room for
+/// The number of bytes in the buffer of a window.
 const PIECE: usize = 65_536;
 
-/// The most bytes of a line of a report, without its line feed: those of `executions 4294967295`.
-const LONGEST_LINE: usize = 21;
+/// The number of bytes in the longest line of a report, `executions 4294967295`, without its line
+/// feed.
+const MAX_LINE_BYTES: usize = 21;
 
-/// What stands at the front of the window.
+/// What was found at the front of a window.
 #[derive(Clone, Copy, Debug)]
 pub enum AtFront {
-    /// A whole line, of so many bytes without its line feed.
+    /// A whole line; its number of bytes without the line feed.
     Line(usize),
-    /// The beginning of a line that is too long, or a last line without line feed.
+    /// The beginning of a line that is too long, or a last line without a line feed.
     Bad,
-    /// Nothing: the text is at its end.
+    /// The end of the text.
     End,
 }
 
-/// One piece of a text, from the line that is to be read next.
+/// A buffer with one piece of a report's text, which begins with the line to be read next.
 ///
-/// Clauses see the bytes that were given and not passed yet, how many were given and how many the
-/// text may have, the number of the line at the front, and whether the end of the source was met.
+/// Contracts see the bytes that were read but not yet consumed (`pending`), the number of bytes
+/// read so far (`given`), the largest number that the text may have (`most`), the number of the
+/// line at the front, and whether the end of the source was reached.
 #[derive(Drop)]
 pub struct Window {
     room: Vec<u8>,
-    // the bytes from the first to the past one were not passed yet
+    // the unpassed bytes are room[first..past]
     first: usize,
     past: usize,
     given: u64,
-    // how many bytes the text may have
+    // the largest number of bytes that the text may have
     most: u64,
     number: u32,
     is_ended: bool,
@@ -72,7 +75,11 @@ impl Model for Window {
 }
 
 impl Window {
-    /// A window on a text of which nothing was read, and which may have so many bytes.
+    /// Creates a window before the first line of a text of at most `most` bytes. Reads nothing.
+    ///
+    /// # Errors
+    ///
+    /// Returns `AllocError` if memory runs out.
     pub fn new(alloc: Global, most: u64) -> Result<Window, AllocError>
         ensures { IfOk result (λ window. window ≡ untouched most) }
     {
@@ -88,28 +95,29 @@ impl Window {
         })
     }
 
-    /// Allows the text so many bytes, from now on.
+    /// Sets the number of bytes that the text may have to `most`. Bytes that were read before count
+    /// as well.
     pub fn allow(&mut self, most: u64)
         ensures { self.new ≡ with_most most self.old }
     {
         self.most = most;
     }
 
-    /// The number of the line at the front.
+    /// Returns the 1-based number of the line at the front.
     pub fn number(&self) -> u32
         ensures { result ≡ self.now.number }
     {
         self.number
     }
 
-    /// Whether the end of the source was met.
+    /// Returns whether a read has reached the end of the source.
     fn is_ended(&self) -> bool
         ensures { result ≡ self.now.ended }
     {
         self.is_ended
     }
 
-    /// The line at the front, of so many bytes.
+    /// Returns the first `size` of the bytes that were read and not passed.
     pub(crate) fn line(&self, size: usize) -> &[u8]
         requires { size ≤ length self.now.pending }
         ensures { result.now ≡ take size self.now.pending }
@@ -117,14 +125,14 @@ impl Window {
         &self.pending()[..size]
     }
 
-    /// The bytes that were given and not passed yet.
+    /// Returns the bytes that were read and not passed yet.
     pub fn pending(&self) -> &[u8]
         ensures { result.now ≡ self.now.pending }
     {
         &self.room[self.first..self.past]
     }
 
-    /// Passes the line at the front, of so many bytes.
+    /// Passes the line of `size` bytes at the front, with its line feed.
     pub(crate) fn pass(&mut self, size: usize)
         requires { IsLineAt size self.old }
         ensures { self.new ≡ passed size self.old }
@@ -133,9 +141,14 @@ impl Window {
         self.first += size + 1;
     }
 
-    /// Finds what stands at the front, and reads for it as much as it takes. A line with too large
-    /// a number is refused.
-    pub(crate) fn find<C: Read>(&mut self, source: &mut Source<C>) -> Result<AtFront, Halt>
+    /// Finds what is at the front, and reads as far as needed. Passes nothing.
+    ///
+    /// # Errors
+    ///
+    /// Returns [`ReadStop::BadReport`] with `TooLong` at a line numbered above
+    /// [`MAX_REPORT_LINES`], and [`ReadStop::SourceFailed`] if a read fails or the text has more
+    /// bytes than allowed.
+    pub(crate) fn find<C: Read>(&mut self, source: &mut Source<C>) -> Result<AtFront, ReadStop>
         requires { CanGive source.old self.old }
         ensures found { Finds source.old source.new self.old self.new result }
         ensures can { OnOk result (CanGive source.new self.new) }
@@ -143,8 +156,8 @@ impl Window {
         let found = self.seek(source)?;
         match found {
             AtFront::Line(_) => {
-                if self.number() > MOST_REPORT_LINES {
-                    return Err(Halt::Amiss(CertFault::TooLong));
+                if self.number() > MAX_REPORT_LINES {
+                    return Err(ReadStop::BadReport(CertFault::TooLong));
                 }
                 Ok(found)
             }
@@ -153,7 +166,13 @@ impl Window {
         }
     }
 
-    /// Finds what stands at the front, whatever the number of the line is.
+    /// Finds what is at the front, whatever the line's number, and reads as far as needed. Passes
+    /// nothing.
+    ///
+    /// # Errors
+    ///
+    /// Returns `Read` if a read fails, and `TooLong` if the text has more bytes than allowed. What
+    /// was read before stays in the window.
     pub fn seek<C: Read>(&mut self, source: &mut Source<C>) -> Result<AtFront, ReadFault>
         requires { CanGive source.old self.old }
         ensures found { Seeks source.old source.new self.old self.new result }
@@ -167,22 +186,23 @@ impl Window {
         }
     }
 
-    /// What stands at the front, if that is known.
+    /// Returns what is at the front, or `None` if more bytes have to be read to know.
     fn look(&self) -> Option<AtFront>
         ensures { MatchOption result (IsShort self.now) (λ found. IsFront found self.now) }
     {
         let pending = self.pending();
-        let near = &pending[..pending.len().min(LONGEST_LINE + 1)];
-        match cut(near, b'\n') {
+        let near = &pending[..pending.len().min(MAX_LINE_BYTES + 1)];
+        match split_once(near, b'\n') {
             Some((line, _)) => Some(AtFront::Line(line.len())),
-            None if near.len() > LONGEST_LINE => Some(AtFront::Bad),
+            None if near.len() > MAX_LINE_BYTES => Some(AtFront::Bad),
             None if !self.is_ended() => None,
             None if near.is_empty() => Some(AtFront::End),
             None => Some(AtFront::Bad),
         }
     }
 
-    /// Reads one piece behind the bytes that were not passed yet.
+    /// Moves the unpassed bytes to the front of the buffer and reads one piece behind them. At most
+    /// one byte is read beyond the allowed number, to notice that the text is too long.
     fn fill<C: Read>(&mut self, source: &mut Source<C>) -> Result<(), ReadFault>
         requires few { length self.old.pending ≤ longest_line }
         requires can { CanGive source.old self.old }
@@ -212,7 +232,11 @@ impl Window {
         }
     }
 
-    /// Reads the rest of the text, whatever it is.
+    /// Reads the text to its end and drops it, whether it is a report or not.
+    ///
+    /// # Errors
+    ///
+    /// Returns `Read` if a read fails, and `TooLong` if the text has more bytes than allowed.
     pub fn drain<C: Read>(&mut self, source: &mut Source<C>) -> Result<(), ReadFault>
         requires { CanGive source.old self.old }
         ensures { Drains source.old source.new self.old self.new result }
@@ -224,7 +248,13 @@ impl Window {
         Ok(())
     }
 
-    /// The bytes that were given and not passed yet, and the rest of the text.
+    /// Reads the text to its end. Returns the bytes that were read and not passed, and all that
+    /// follow.
+    ///
+    /// # Errors
+    ///
+    /// Returns `Read` if a read fails, `TooLong` if the text has more bytes than allowed, and
+    /// `OutOfMemory` if memory runs out. The bytes that were collected are then lost.
     pub fn read_rest<C: Read>(
         &mut self,
         alloc: Global,
@@ -242,7 +272,8 @@ impl Window {
         Ok(text)
     }
 
-    /// Passes all bytes that were given, and puts them behind a text.
+    /// Appends the unpassed bytes to `text` and empties the window. It is emptied even if memory
+    /// runs out.
     fn move_onto(&mut self, text: &mut Vec<u8>) -> Result<(), ReadFault>
         ensures passed { self.new ≡ without_pending self.old }
         ensures moved { OnOk result (text.new.items ≡ text.old.items ++ self.old.pending) }
@@ -256,7 +287,7 @@ impl Window {
         }
     }
 
-    /// Passes all bytes that were given.
+    /// Drops all bytes in the window. The line number stays.
     fn pass_all(&mut self)
         ensures { self.new ≡ without_pending self.old }
     {
@@ -265,7 +296,7 @@ impl Window {
     }
 }
 
-/// Moves the bytes from the first to the past one to the front.
+/// Moves `room[first..past]` to the front of `room`.
 fn move_to_front(room: &mut [u8], first: usize, past: usize)
     requires ordered { first ≤ past }
     requires within { past ≤ length room.old }
@@ -275,7 +306,8 @@ fn move_to_front(room: &mut [u8], first: usize, past: usize)
     room.copy_within(first..past, 0);
 }
 
-/// One call of a source, for at most so many bytes behind the first ones of a room.
+/// Reads at most `size` bytes from `source` into `room`, after its first `kept` bytes, with one
+/// call. Returns the number of bytes read.
 fn read_behind<C: Read>(
     source: &mut Source<C>,
     room: &mut [u8],

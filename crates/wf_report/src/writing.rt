@@ -1,26 +1,32 @@
-//! The text of a report.
+//! Writing the text of a report.
 
 ghost use Rattle.std.specs.Prelude.{◌≡◌, ◌<◌, ◌≤◌, ◌+◌, ◌∷◌, [], ◌++◌, IfOk, OnOk, codes, decimal, drop, flat_map, length, map};
 ghost use Rattle.wf_model.specs.Report.{line, value_line, line_text, answer_line, body_lines, body_values, report_text};
-ghost use Rattle.wf_lines.specs.Lines.{line_of};
+ghost use Rattle.wf_base.specs.Lines.Lines.{line_of};
 ghost use Rattle.wf_report.specs.Reports.{body_of, report_seen};
 ghost use Rattle.wf_report.specs.Writing.{IsBeginning};
 
 use crate::report::{Body, Report};
 use itoa::write_digits;
 use std::alloc::{AllocError, Global};
-use wf_lines::{Line, Lines, put_number, put_words};
+use wf_base::lines::{Line, Lines, put_number, put_words};
 
-/// So many lines are written before the memory of those that were is given back.
+/// The number of lines after which the memory of the written lines is released.
 const PIECE: usize = 65_536;
 
-/// Room for a line. The longest takes 21 bytes: a letter, numbers of up to ten, three and three
-/// digits, each behind a space, and a line feed.
+/// The size of the buffer for a line. The longest line takes 21 bytes: a letter, then numbers of up
+/// to ten, three and three digits, each behind a space, and a line feed.
 const ROOM: usize = 32;
 
-/// The text of a report: a header, the values of a map, or the lines of a refutation, or the values
-/// of the least map and the lines that lead to it, and `end`. Every line ends in one line feed, and
-/// numbers are decimal. Refused where memory runs out, and for nothing else.
+/// Returns the text of `report`: the header, the values of a map, the lines of a refutation or a
+/// search, and `end`.
+///
+/// Every line ends in one line feed, and numbers are decimal. [`Report::into_text`] needs less
+/// memory.
+///
+/// # Errors
+///
+/// Returns `AllocError` if memory runs out.
 pub fn write_report(alloc: Global, report: &Report) -> Result<Vec<u8>, AllocError>
     ensures text { IfOk result (λ text. text.items ≡ report_text (report_seen report.now)) }
 {
@@ -31,9 +37,14 @@ pub fn write_report(alloc: Global, report: &Report) -> Result<Vec<u8>, AllocErro
 }
 
 impl Report {
-    /// Its text, as [`write_report`] makes it. The memory of its lines is given back while they are
-    /// written, so text and lines together take little more than the larger of the two. Refused
-    /// where memory runs out, and for nothing else.
+    /// Returns the text of the report, as [`write_report`] does, and consumes the report.
+    ///
+    /// The memory of the lines is released while they are written, so text and lines together take
+    /// little more than the larger of the two.
+    ///
+    /// # Errors
+    ///
+    /// Returns `AllocError` if memory runs out; the report is then lost.
     pub fn into_text(self, alloc: Global) -> Result<Vec<u8>, AllocError>
         ensures text { IfOk result (λ text. text.items ≡ report_text (report_seen self)) }
     {
@@ -44,7 +55,7 @@ impl Report {
     }
 }
 
-/// The text of a report up to its lines.
+/// Returns the text of `report` up to its lines: the header, the answer line and the values.
 fn beginning(alloc: Global, report: &Report) -> Result<Vec<u8>, AllocError>
     ensures { IfOk result (λ text. IsBeginning (report_seen report.now) text.items) }
 {
@@ -61,7 +72,7 @@ fn beginning(alloc: Global, report: &Report) -> Result<Vec<u8>, AllocError>
 }
 
 impl Body {
-    /// The words that say what is answered.
+    /// Returns the answer line, without its line feed.
     fn answer(&self) -> &'static str
         ensures { line result.now [] ≡ answer_line (body_of self.now) }
     {
@@ -72,8 +83,7 @@ impl Body {
         }
     }
 
-    /// The values of its map, in the order of the points; none where there is no map. It takes no
-    /// memory.
+    /// Returns the values of the map, in the order of the points. Empty if the body has no map.
     pub fn values(&self) -> &[u8]
         ensures { result.now ≡ body_values (body_of self.now) }
     {
@@ -83,7 +93,7 @@ impl Body {
         }
     }
 
-    /// Its lines; none where it is a map alone. It takes no memory.
+    /// Returns the lines of the refutation or the search. Empty if the body is only a map.
     pub fn lines(&self) -> &[Line]
         ensures { map line_of result.now ≡ body_lines (body_of self.now) }
     {
@@ -93,7 +103,8 @@ impl Body {
         }
     }
 
-    /// Its lines, without the values; none if it is a map alone.
+    /// Returns the lines of the refutation or the search, and drops the values. Empty if the body
+    /// is only a map.
     fn into_lines(self, alloc: Global) -> Lines
         ensures { map line_of result.items ≡ body_lines (body_of self) }
     {
@@ -105,6 +116,7 @@ impl Body {
     }
 }
 
+/// Appends a line `m A` for each of `values` to `text`.
 fn put_values(text: &mut Vec<u8>, values: &[u8]) -> Result<(), AllocError>
     ensures { OnOk result (text.new.items ≡ text.old.items ++ flat_map value_line values.now) }
 {
@@ -114,6 +126,7 @@ fn put_values(text: &mut Vec<u8>, values: &[u8]) -> Result<(), AllocError>
     Ok(())
 }
 
+/// Appends the text of `lines` to `text`.
 fn put_lines(text: &mut Vec<u8>, lines: &[Line]) -> Result<(), AllocError>
     ensures { OnOk result (text.new.items
         ≡ text.old.items ++ flat_map line_text (map line_of lines.now)) }
@@ -124,7 +137,7 @@ fn put_lines(text: &mut Vec<u8>, lines: &[Line]) -> Result<(), AllocError>
     Ok(())
 }
 
-/// Adds these lines, and gives their memory back.
+/// Appends the text of `lines` to `text`, and releases their memory piece by piece.
 fn take_lines(text: &mut Vec<u8>, lines: Lines) -> Result<(), AllocError>
     ensures { OnOk result (text.new.items
         ≡ text.old.items ++ flat_map line_text (map line_of lines.items)) }
@@ -140,12 +153,14 @@ fn take_lines(text: &mut Vec<u8>, lines: Lines) -> Result<(), AllocError>
     Ok(())
 }
 
+/// Appends the line `end` to `text`.
 fn put_end(text: &mut Vec<u8>) -> Result<(), AllocError>
     ensures { OnOk result (text.new.items ≡ text.old.items ++ line (codes "end") []) }
 {
     text.extend_from_slice(b"end\n")
 }
 
+/// Appends the line `m A` of `value` to `text`.
 fn put_value(text: &mut Vec<u8>, value: u8) -> Result<(), AllocError>
     ensures { OnOk result (text.new.items ≡ text.old.items ++ value_line value) }
 {
@@ -156,7 +171,7 @@ fn put_value(text: &mut Vec<u8>, value: u8) -> Result<(), AllocError>
     text.extend_from_slice(&room[begin..])
 }
 
-/// Adds a line, which is written from its end on, and added at once.
+/// Appends the text of `line` to `text`. It is first written into a buffer, from right to left.
 fn put_line(text: &mut Vec<u8>, line: Line) -> Result<(), AllocError>
     ensures { OnOk result (text.new.items ≡ text.old.items ++ line_text (line_of line)) }
 {
@@ -165,7 +180,8 @@ fn put_line(text: &mut Vec<u8>, line: Line) -> Result<(), AllocError>
     text.extend_from_slice(&room[begin..])
 }
 
-/// Writes a line so that it ends where the room ends, and says where it begins.
+/// Writes the text of `line`, with its line feed, at the end of `room`. Returns the index at which
+/// it begins.
 fn write_line(line: Line, room: &mut [u8; ROOM]) -> usize
     ensures within { result ≤ ROOM }
     ensures written { drop result room.new ≡ line_text (line_of line) }
@@ -194,7 +210,8 @@ fn write_line(line: Line, room: &mut [u8; ROOM]) -> usize
     }
 }
 
-/// Writes a space and a number so that they end there, and says where they begin.
+/// Writes a space and `number` into `room` so that they end before index `end`. Returns the index
+/// at which they begin.
 fn write_number(number: u32, room: &mut [u8], end: usize) -> usize
     requires { (length (decimal number) < end) × (end ≤ length room.old) }
     ensures begin { result + 1 + length (decimal number) ≡ end }
@@ -204,7 +221,7 @@ fn write_number(number: u32, room: &mut [u8], end: usize) -> usize
     write_byte(b' ', room, digits)
 }
 
-/// Writes a byte so that it ends there, and says where it begins.
+/// Writes `byte` into `room` before index `end`. Returns its index.
 fn write_byte(byte: u8, room: &mut [u8], end: usize) -> usize
     requires { (0 < end) × (end ≤ length room.old) }
     ensures begin { result + 1 ≡ end }

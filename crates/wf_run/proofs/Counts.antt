@@ -1,13 +1,13 @@
 -- The counts of a run.
 use Rattle.std.proofs.Common.{◌≡◌, ◌≢◌, ℕ, ◌+◌, ◌≤◌, List, length, Option, Result, Ok, Err, refl, sym, ap, ◌∙◌, arith, IfErr}
 use Rattle.wf_model.specs.Task.{Task}
-use Rattle.wf_io.specs.Seen.{Reading, Writing}
-use Rattle.wf_io.specs.Texts.{IsText}
-use Rattle.wf_io.specs.Texts as io
-use Rattle.wf_io.specs.declared.source.ReadFault.{ReadFault}
-use Rattle.wf_io.specs.declared.source.ReadFault.TheVariants as read
-use Rattle.wf_draft.specs.declared.fault.TaskFault.{TaskFault}
-use Rattle.wf_draft.specs.declared.fault.TaskFault.TheVariants as task
+use Rattle.wf_base.specs.Streams.Seen.{Reading, Writing}
+use Rattle.wf_base.specs.Streams.Texts.{IsText}
+use Rattle.wf_base.specs.Streams.Texts as io
+use Rattle.wf_base.specs.declared.streams.source.ReadFault.{ReadFault}
+use Rattle.wf_base.specs.declared.streams.source.ReadFault.TheVariants as read
+use Rattle.wf_task_parse.specs.declared.fault.TaskFault.{TaskFault}
+use Rattle.wf_task_parse.specs.declared.fault.TaskFault.TheVariants as task
 use Rattle.wf_model.specs.Limits.{most_bytes}
 use Rattle.wf_run.specs.declared.fault.RunFault.{RunFault}
 use Rattle.wf_run.specs.declared.fault.RunFault.TheVariants as run

@@ -2,9 +2,9 @@
 use Rattle.std.proofs.Common.{ℕ, List, Result, Ok, Err, sym, ap, ◌∙◌}
 use Rattle.wf_model.specs.Limits.{most_bytes}
 use Rattle.wf_model.specs.Task.{Task}
-use Rattle.wf_io.specs.Seen.{Reading}
-use Rattle.wf_io.specs.Texts.{ReadsText}
-use Rattle.wf_io.specs.declared.source.ReadFault.{ReadFault}
+use Rattle.wf_base.specs.Streams.Seen.{Reading}
+use Rattle.wf_base.specs.Streams.Texts.{ReadsText}
+use Rattle.wf_base.specs.declared.streams.source.ReadFault.{ReadFault}
 use Rattle.wf_task.specs.Judge.{task_of_text}
 use Rattle.wf_run.specs.Run.{IsTaskOf, Judged}
 use Rattle.wf_run.specs.Given.{GaveTask}

@@ -1,9 +1,9 @@
 -- Runs that write their text in pieces, and those that read another source about a task.
 use Rattle.std.proofs.Common.{◌≡◌, ℕ, List, Result, Ok, Err, IsErr, IsErrAnd, Vec, refl, ap, subst}
 use Rattle.wf_model.specs.Task.{Task}
-use Rattle.wf_io.specs.Seen.{Reading, Writing}
-use Rattle.wf_io.specs.Texts.{WritesText}
-use Rattle.wf_io.specs.declared.sink.WriteFault.{WriteFault}
+use Rattle.wf_base.specs.Streams.Seen.{Reading, Writing}
+use Rattle.wf_base.specs.Streams.Texts.{WritesText}
+use Rattle.wf_base.specs.declared.streams.sink.WriteFault.{WriteFault}
 use Rattle.wf_complex.specs.Protocol.{Built, Builds}
 use Rattle.wf_complex.specs.declared.fault.BuildFault.{BuildFault}
 use Rattle.wf_complex.specs.declared.fault.BuildFault.TheVariants as build

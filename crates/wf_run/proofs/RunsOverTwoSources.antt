@@ -1,8 +1,8 @@
 -- A run over a task and another source that ends well, and the counts of one, whatever it answers.
 use Rattle.std.proofs.Common.{◌≡◌, ℕ, ◌+◌, ◌≤◌, List, Result, Ok, Err, sym, ap, subst, ◌∙◌, arith}
 use Rattle.wf_model.specs.Task.{Task}
-use Rattle.wf_io.specs.Seen.{Reading, Writing}
-use Rattle.wf_io.specs.Texts.{Wrote}
+use Rattle.wf_base.specs.Streams.Seen.{Reading, Writing}
+use Rattle.wf_base.specs.Streams.Texts.{Wrote}
 use Rattle.wf_complex.specs.Protocol.{Built}
 use Rattle.wf_run.specs.declared.fault.RunFault.{RunFault}
 use Rattle.wf_run.specs.Run.{Hands, IsTaskOf, Ran, Reads, failed_reads, failed_writes, by_result}

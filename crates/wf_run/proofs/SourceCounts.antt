@@ -1,8 +1,8 @@
 -- The counts of a run over two sources, whatever is read of the second one.
 use Rattle.std.proofs.Common.{◌≡◌, ℕ, ◌+◌, ◌≤◌, List, Result, Err, ap, ◌∙◌, arith}
 use Rattle.wf_model.specs.Task.{Task}
-use Rattle.wf_io.specs.Seen.{Reading, Writing}
-use Rattle.wf_io.specs.Texts as io
+use Rattle.wf_base.specs.Streams.Seen.{Reading, Writing}
+use Rattle.wf_base.specs.Streams.Texts as io
 use Rattle.wf_model.specs.Limits.{most_bytes}
 use Rattle.wf_run.specs.declared.fault.RunFault.{RunFault}
 use Rattle.wf_run.specs.Run.{Hands, IsTaskOf, Reads, failed_reads, failed_writes, by_result}

@@ -1,22 +1,22 @@
 -- How the refusals of the parts become those of a run, and the number and the name of each.
 use Rattle.std.specs.Prelude.{ℕ, List, ◌++◌, codes, decimal}
-use Rattle.wf_io.specs.declared.source.ReadFault.{ReadFault}
-use Rattle.wf_io.specs.declared.source.ReadFault.TheVariants as read
-use Rattle.wf_draft.specs.declared.fault.TaskFault.{TaskFault}
-use Rattle.wf_draft.specs.declared.fault.TaskFault.TheVariants as task
-use Rattle.wf_draft.specs.FaultText as task_text
+use Rattle.wf_base.specs.declared.streams.source.ReadFault.{ReadFault}
+use Rattle.wf_base.specs.declared.streams.source.ReadFault.TheVariants as read
+use Rattle.wf_task_parse.specs.declared.fault.TaskFault.{TaskFault}
+use Rattle.wf_task_parse.specs.declared.fault.TaskFault.TheVariants as task
+use Rattle.wf_task_parse.specs.FaultText as task_text
 use Rattle.wf_complex.specs.declared.fault.BuildFault.{BuildFault}
 use Rattle.wf_complex.specs.declared.fault.BuildFault.TheVariants as build
 use Rattle.wf_complex.specs.Faults as build_text
 use Rattle.wf_report.specs.declared.fault.CertFault.{CertFault}
 use Rattle.wf_report.specs.declared.fault.CertFault.TheVariants as amiss
 use Rattle.wf_report.specs.Faults as report_faults
-use Rattle.wf_cnf.specs.declared.solver.ModelFault.{ModelFault}
-use Rattle.wf_cnf.specs.declared.solver.ModelFault.TheVariants as model
-use Rattle.wf_rup.specs.declared.proof.ProofFault.{ProofFault}
-use Rattle.wf_rup.specs.declared.proof.ProofFault.TheVariants as proof
-use Rattle.wf_lrat.specs.declared.proof.HintFault.{HintFault}
-use Rattle.wf_lrat.specs.declared.proof.HintFault.TheVariants as hints
+use Rattle.wf_sat_cnf.specs.declared.solver.ModelFault.{ModelFault}
+use Rattle.wf_sat_cnf.specs.declared.solver.ModelFault.TheVariants as model
+use Rattle.wf_sat_check.specs.declared.rup.proof.ProofFault.{ProofFault}
+use Rattle.wf_sat_check.specs.declared.rup.proof.ProofFault.TheVariants as proof
+use Rattle.wf_sat_check.specs.declared.lrat.proof.LratFault.{LratFault}
+use Rattle.wf_sat_check.specs.declared.lrat.proof.LratFault.TheVariants as hints
 use Rattle.wf_run.specs.declared.obstruction.CheckerLimit.{CheckerLimit}
 use Rattle.wf_run.specs.declared.obstruction.CheckerLimit.TheVariants as limit
 use Rattle.wf_run.specs.declared.obstruction.ObstructionFault.{ObstructionFault}
@@ -56,7 +56,7 @@ abbrev pub of_proof : ProofFault → RunFault
 of_proof proof.OutOfMemory = OutOfMemory
 of_proof e = Proof e
 
-abbrev pub of_hints : HintFault → RunFault
+abbrev pub of_hints : LratFault → RunFault
 of_hints hints.OutOfMemory = OutOfMemory
 of_hints e = Hints e
 
@@ -77,7 +77,7 @@ proof_text proof.Binary = codes "42 Binary: ask the solver for text by --no-bina
 proof_text proof.OutOfMemory = task_text.fault_text task.OutOfMemory
 
 -- what is printed of a proof with hints that is not accepted
-abbrev pub hints_text : HintFault → List ℕ
+abbrev pub hints_text : LratFault → List ℕ
 hints_text (hints.NotALiteral line) = codes "38 NotALiteral " ++ decimal line
 hints_text (hints.NoSuchVariable line) = codes "39 NoSuchVariable " ++ decimal line
 hints_text (hints.ClauseLeftOut line) = codes "61 ClauseLeftOut " ++ decimal line

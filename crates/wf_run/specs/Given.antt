@@ -1,8 +1,8 @@
 -- Which task a source gave.
 use Rattle.std.specs.Prelude.{◌≡◌, ℕ, List, Ok}
 use Rattle.wf_model.specs.Task.{Task}
-use Rattle.wf_io.specs.Seen.{Reading}
-use Rattle.wf_io.specs.Texts.{GaveAll}
+use Rattle.wf_base.specs.Streams.Seen.{Reading}
+use Rattle.wf_base.specs.Streams.Texts.{GaveAll}
 use Rattle.wf_task.specs.Judge.{task_of_text}
 
 -- the source gave the bytes of this task

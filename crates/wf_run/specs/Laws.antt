@@ -1,7 +1,7 @@
 -- What holds after a run over one source, or over two, whatever it answers.
 use Rattle.std.specs.Prelude.{◌≡◌, ◌≢◌, ◌+◌, ◌≤◌, ℕ, Result, IfErr}
 use Rattle.wf_model.specs.Limits.{most_bytes}
-use Rattle.wf_io.specs.Seen.{Reading, Writing}
+use Rattle.wf_base.specs.Streams.Seen.{Reading, Writing}
 use Rattle.wf_run.specs.declared.fault.RunFault.{RunFault}
 use Rattle.wf_run.specs.declared.fault.RunFault.TheVariants.{Write}
 use Rattle.wf_run.specs.Run.{by_result, failed_reads, failed_writes}

@@ -3,11 +3,11 @@
 use Rattle.std.specs.Prelude.{◌≡◌, ℕ, List, Result, Ok, Err, Vec}
 use Rattle.wf_model.specs.Limits.{most_bytes}
 use Rattle.wf_model.specs.Task.{Task}
-use Rattle.wf_io.specs.Seen.{Reading, Writing}
-use Rattle.wf_io.specs.Texts.{ReadsText, Wrote, TookBeginning}
-use Rattle.wf_io.specs.declared.source.ReadFault.{ReadFault}
+use Rattle.wf_base.specs.Streams.Seen.{Reading, Writing}
+use Rattle.wf_base.specs.Streams.Texts.{ReadsText, Wrote, TookBeginning}
+use Rattle.wf_base.specs.declared.streams.source.ReadFault.{ReadFault}
 use Rattle.wf_task.specs.Judge.{task_of_text}
-use Rattle.wf_draft.specs.declared.fault.TaskFault.{TaskFault}
+use Rattle.wf_task_parse.specs.declared.fault.TaskFault.{TaskFault}
 use Rattle.wf_complex.specs.Protocol.{Built, Builds}
 use Rattle.wf_complex.specs.declared.fault.BuildFault.TheVariants as build
 use Rattle.wf_run.specs.Faults.{of_read, of_task}

@@ -2,8 +2,8 @@
 -- task after so many rounds.
 use Rattle.std.specs.Prelude.{◌≡◌, ℕ, List, Result, Ok, Err}
 use Rattle.wf_model.specs.Task.{Task}
-use Rattle.wf_io.specs.Seen.{Reading, Writing}
-use Rattle.wf_io.specs.Ends.{CanCount, CanRead}
+use Rattle.wf_base.specs.Streams.Seen.{Reading, Writing}
+use Rattle.wf_base.specs.Streams.Ends.{CanCount, CanRead}
 use Rattle.wf_complex.specs.Protocol.{Built, Builds}
 use Rattle.wf_run.specs.Run.{IsBeyondLimits, IsTaskOf, Reads}
 use Rattle.wf_run.specs.declared.fault.RunFault.{RunFault}

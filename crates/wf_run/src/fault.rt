@@ -1,4 +1,4 @@
-//! Why a run is refused.
+//! The reasons why a run is refused.
 
 ghost use Rattle.std.specs.Prelude.{◌≡◌, Some};
 ghost use Rattle.wf_run.specs.Faults.{of_read, of_task, of_build, of_report_fault, of_model, of_proof, of_hints, fault_text, hints_text, model_text, part_fault_text, printed_text, proof_text};
@@ -7,18 +7,18 @@ ghost use Rattle.wf_run.specs.declared.fault.RunFault.TheVariants.{OutOfMemory, 
 use crate::obstruction::ObstructionFault;
 use std::alloc::AllocError;
 use std::fmt;
-use wf_cnf::ModelFault;
+use wf_base::streams::{ReadFault, WriteFault};
 use wf_complex::BuildFault;
-use wf_io::{ReadFault, WriteFault};
-use wf_lrat::HintFault;
 use wf_report::CertFault;
-use wf_rup::ProofFault;
+use wf_sat_check::lrat::LratFault;
+use wf_sat_check::rup::ProofFault;
+use wf_sat_cnf::ModelFault;
 use wf_task::TaskFault;
 
-/// Why a run is refused.
+/// A reason why a run is refused. Each has a number and a name, which are displayed.
 #[derive(Clone, Copy, Debug, PartialEq, Eq)]
 pub enum RunFault {
-    /// 1: a text has too many bytes.
+    /// 1: a text has more bytes or lines than allowed.
     TooLong,
     /// 2 to 14, 18: the text is no task.
     Task(TaskFault),
@@ -26,59 +26,60 @@ pub enum RunFault {
     Build(BuildFault),
     /// 20 to 29, 34, 35: the text is no report, or the report is not accepted.
     Cert(CertFault),
-    /// 37 to 39: the text says no model of the task's question.
+    /// 37 to 39: the solver's text has no model of the task's formula.
     Model(ModelFault),
     /// 38 to 42: the text is no clausal proof that the task has no decision map.
     Proof(ProofFault),
     /// 38, 39, 41, 42, 61 to 64: the text is no proof with hints that the task has no decision map.
-    Hints(HintFault),
-    /// 36: the report is about other rounds than were asked for.
+    Hints(LratFault),
+    /// 36: the report is about another number of rounds than requested, or in a lift about more
+    /// rounds.
     OtherRounds,
-    /// 43: the report is accepted, and has no map to be lifted.
+    /// 43: the report is accepted, but has no map to lift.
     NoMap,
-    /// 44: the task's question has so many branches, numbered from 0, and not
-    /// the one that was asked for.
+    /// 44: the requested branch doesn't exist.
     NoBranch {
-        /// How many branches there are.
+        /// The number of branches of the question; they are numbered from 0.
         branches: u32,
     },
-    /// 45: the text doesn't begin with the lines of a part about the branch that was asked for.
+    /// 45: the text doesn't begin with the lines of a part about the requested branch.
     OtherPart,
-    /// 46: the map of a part is a decision map, and lies in another branch.
+    /// 46: the map of a part is a decision map, but lies in another branch.
     NotInBranch,
-    /// 47: what comes next in a text of parts is no part about the branch that is to come.
+    /// 47: the next lines of a text of parts are no part about the next branch.
     NoPart {
-        /// The number of that branch.
+        /// The index of the branch that should come next.
         branch: u32,
     },
-    /// 48: among the parts of all branches, this one is refused.
+    /// 48: one of the parts of all branches is refused.
     InPart {
-        /// The number of its branch.
+        /// The index of the part's branch.
         branch: u32,
-        /// Why it is.
+        /// The reason why the part is refused.
         fault: PartFault,
     },
-    /// 49: a text of parts goes on behind the parts of all branches.
+    /// 49: a text of parts continues after the parts of all branches.
     TooManyParts {
-        /// How many branches there are.
+        /// The number of branches of the question.
         branches: u32,
     },
-    /// 50 to 59, 65 to 69: the text lists no obstruction of the task.
+    /// 50 to 59, 65 to 69: the text is no obstruction of the task.
     Obstruction(ObstructionFault),
     /// 15: memory ran out.
     OutOfMemory,
-    /// 30: a call of the reader answered an error.
+    /// 30: a read failed.
     Read,
-    /// 31: a call of the writer answered an error, or took no byte.
+    /// 31: a write failed, or the writer took no byte.
     Write,
 }
 
-/// Why a part about a branch is refused.
+/// A reason why the part about a branch is refused.
 #[derive(Clone, Copy, Debug, PartialEq, Eq)]
 pub enum PartFault {
-    /// 1, 20 to 29, 34, 35: its report is none, or it is not accepted about the branch.
+    /// 1, 20 to 29, 34, 35: the part has no report, or the report is not accepted as one about the
+    /// branch.
     Report(CertFault),
-    /// 46: its map is a decision map, and lies in another branch.
+    /// 46: the map of the part is a decision map, but lies in another branch.
     NotInBranch,
 }
 
@@ -93,7 +94,7 @@ impl fmt::Display for PartFault {
     }
 }
 
-/// What is printed of a refusal: what another one says, or a name and the number behind it.
+/// The display of a refusal: that of the fault which it carries, or a name and the number after it.
 enum Printed {
     Task(TaskFault),
     Build(BuildFault),
@@ -104,7 +105,7 @@ enum Printed {
 }
 
 impl RunFault {
-    /// What is printed of it.
+    /// Returns what is displayed.
     fn printed(&self) -> Printed
         ensures { printed_text result ≡ fault_text self.now }
     {
@@ -138,7 +139,7 @@ impl RunFault {
     }
 }
 
-/// What is printed of a solver's text that gives no map.
+/// Returns the display of a fault in a solver's model.
 fn printed_model(fault: ModelFault) -> Printed
     ensures { printed_text result ≡ model_text fault }
 {
@@ -153,7 +154,7 @@ fn printed_model(fault: ModelFault) -> Printed
     }
 }
 
-/// What is printed of a clausal proof that is not accepted.
+/// Returns the display of a fault in a clausal proof.
 fn printed_proof(fault: ProofFault) -> Printed
     ensures { printed_text result ≡ proof_text fault }
 {
@@ -169,23 +170,23 @@ fn printed_proof(fault: ProofFault) -> Printed
     }
 }
 
-/// What is printed of a proof with hints that is not accepted.
-fn printed_hints(fault: HintFault) -> Printed
+/// Returns the display of a fault in a proof with hints.
+fn printed_hints(fault: LratFault) -> Printed
     ensures { printed_text result ≡ hints_text fault }
 {
     match fault {
-        HintFault::NotALiteral { line } => Printed::Words("38 NotALiteral", Some(line)),
-        HintFault::NoSuchVariable { line } => Printed::Words("39 NoSuchVariable", Some(line)),
-        HintFault::ClauseLeftOut { line } => Printed::Words("61 ClauseLeftOut", Some(line)),
-        HintFault::NoConflict { line } => Printed::Words("62 NoConflict", Some(line)),
-        HintFault::UnknownHint { line } => Printed::Words("63 UnknownHint", Some(line)),
-        HintFault::IdOutOfRange { line } => Printed::Words("64 IdOutOfRange", Some(line)),
-        HintFault::NoContradiction { line } => Printed::Words("41 NoContradiction", Some(line)),
-        HintFault::Binary => Printed::Words(
+        LratFault::NotALiteral { line } => Printed::Words("38 NotALiteral", Some(line)),
+        LratFault::NoSuchVariable { line } => Printed::Words("39 NoSuchVariable", Some(line)),
+        LratFault::ClauseLeftOut { line } => Printed::Words("61 ClauseLeftOut", Some(line)),
+        LratFault::NoConflict { line } => Printed::Words("62 NoConflict", Some(line)),
+        LratFault::UnknownHint { line } => Printed::Words("63 UnknownHint", Some(line)),
+        LratFault::IdOutOfRange { line } => Printed::Words("64 IdOutOfRange", Some(line)),
+        LratFault::NoContradiction { line } => Printed::Words("41 NoContradiction", Some(line)),
+        LratFault::Binary => Printed::Words(
             "42 Binary: ask the solver for text by --no-binary",
             None,
         ),
-        HintFault::OutOfMemory => Printed::Task(TaskFault::OutOfMemory),
+        LratFault::OutOfMemory => Printed::Task(TaskFault::OutOfMemory),
     }
 }
 
@@ -276,12 +277,12 @@ impl From<ProofFault> for RunFault {
     }
 }
 
-impl From<HintFault> for RunFault {
+impl From<LratFault> for RunFault {
     ghost from_gives = { λ x e. e ≡ of_hints x };
 
-    fn from(fault: HintFault) -> RunFault {
+    fn from(fault: LratFault) -> RunFault {
         match fault {
-            HintFault::OutOfMemory => RunFault::OutOfMemory,
+            LratFault::OutOfMemory => RunFault::OutOfMemory,
             fault => RunFault::Hints(fault),
         }
     }

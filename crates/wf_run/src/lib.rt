@@ -1,17 +1,15 @@
-//! What runs share, from the bytes of a reader to the bytes of a writer.
+//! What the runs of all commands share, from the bytes of a reader to the bytes of a writer.
 //!
-//! - [`RunFault`]: why a run is refused, with its number and its name; [`PartFault`]: why one part
-//!   among others is; [`ObstructionFault`]: why an obstruction is.
-//! - [`read_task`], [`hand_out`]: the first and the last step of a run.
-//! - [`run_over_task`]: reads a task, and writes the text of a [`TaskAnswer`] about it;
-//!   [`run_in_pieces`]: writes a [`LongText`] about it, which may be longer than memory.
-//! - [`run_over_pair`]: reads a task and a text about it, and writes the text of a [`PairAnswer`];
-//!   [`run_over_both`]: builds the task's protocol complex between the two, for a [`SecondText`].
-//! - [`write_points`]: the points of a protocol complex in words, with what a map decides.
+//! - [`RunFault`] is the reason for refusing a run, with a number and a name. It contains those of
+//!   its steps, such as [`PartFault`] and [`ObstructionFault`].
+//! - [`read_task`] and [`write_answer`] are the first and the last step of a run.
+//! - [`run_over_task`] and [`run_in_pieces`] read a task and write a text about it.
+//! - [`run_over_pair`] and [`run_over_both`] also read a text about the task, such as a report.
+//! - [`write_points`] lists the points of a protocol complex in words.
 //!
-//! Each run has one condition, that source and sink can count what it asks of them, and one
-//! relation that says what it read, answered and wrote (`specs/Texts.antt`, step by step in
-//! `specs/Run.antt` and `specs/Sources.antt`).
+//! Each run requires that source and sink can count its calls, and ensures one relation of what was
+//! read, answered and written (`specs/Texts.antt`, step by step in `specs/Run.antt` and
+//! `specs/Sources.antt`).
 #![tactic(auto)]
 
 mod fault;
@@ -24,6 +22,6 @@ mod steps;
 pub use fault::{PartFault, RunFault};
 pub use frames::{LongText, TaskAnswer, run_in_pieces, run_over_task};
 pub use obstruction::{CheckerLimit, ObstructionFault};
-pub use pairs::{PairAnswer, SecondText, TextSubject, run_over_both, run_over_pair};
+pub use pairs::{ComplexAnswer, PairAnswer, TaskWithComplex, run_over_both, run_over_pair};
 pub use points::write_points;
-pub use steps::{Answered, Written, hand_out, read_task};
+pub use steps::{Answered, Written, read_task, write_answer};

@@ -1,91 +1,91 @@
-//! Why an obstruction is refused, by the lines of its text.
+//! The reasons why an obstruction is refused, with the line numbers of its text.
 
 ghost use Rattle.std.specs.Prelude.{Some};
 ghost use Rattle.wf_run.specs.Faults.{limit_text, obstruction_text};
 
 use std::fmt;
 
-/// Why an obstruction is refused. Lines are those of its text, from 1 on.
+/// A reason why an obstruction is refused. Lines of the text are counted from 1.
 #[derive(Clone, Copy, Debug, PartialEq, Eq)]
 pub enum ObstructionFault {
-    /// 50: the first block of a word of the task may have to be larger than 1.
+    /// 50: the task asks for first blocks of more than one process.
     FirstBlock,
-    /// 51: the sum of the balance in this line is not from 1 to its modulus less 1.
+    /// 51: the sum of the balance in this line is not between 1 and its modulus less 1.
     SumRange {
-        /// The line.
+        /// The number of the line.
         line: u32,
     },
-    /// 52: the node or multiplier in this line names an input simplex that is not there.
+    /// 52: the node or multiplier in this line names an input simplex that doesn't exist.
     NoSimplex {
-        /// The line.
+        /// The number of the line.
         line: u32,
     },
     /// 53: the multiplier or cover in this line names a place that its simplex doesn't have.
     NoPlace {
-        /// The line.
+        /// The number of the line.
         line: u32,
     },
-    /// 54: the multiplier in this line has not one value for each other participant.
+    /// 54: the multiplier in this line doesn't have one value for each other participant.
     OthersLength {
-        /// The line.
+        /// The number of the line.
         line: u32,
     },
-    /// 55: the weight in this line is not from 1 to the modulus less 1.
+    /// 55: the weight in this line is not between 1 and the modulus less 1.
     WeightRange {
-        /// The line.
+        /// The number of the line.
         line: u32,
     },
-    /// 56: the multipliers of vertices of the balance in this line do not add up to its sum.
+    /// 56: the multipliers of vertices don't add up to the sum of the balance in this line.
     OtherSum {
-        /// The line.
+        /// The number of the line.
         line: u32,
     },
-    /// 57: with the balance in this line a tuple of the task at hand does not count 0, and each
-    /// earlier one does.
+    /// 57: with the balance in this line, a tuple doesn't count 0. It is the first such tuple of
+    /// the task that the node is about.
     NotBalanced {
-        /// The line.
+        /// The number of the line.
         line: u32,
-        /// The number of the input simplex.
+        /// The index of the input simplex that allows the tuple.
         simplex: u64,
-        /// The place of the tuple among those of the simplex, from 0 on.
+        /// The index of the tuple among those of its simplex.
         tuple: u64,
     },
-    /// 58: in this line the nodes end, and a tree has to begin.
+    /// 58: the nodes end in this line, where a tree has to begin.
     NoTree {
-        /// The line.
+        /// The number of the line.
         line: u32,
     },
-    /// 59: the node in this line stands behind the end of the tree.
+    /// 59: the node in this line comes after the end of the tree.
     Behind {
-        /// The line.
+        /// The number of the line.
         line: u32,
     },
-    /// 65: the node in this line is a split or a cover, and the task is symmetric.
+    /// 65: the node in this line is a split or a cover, but the task is symmetric.
     Symmetric {
-        /// The line.
+        /// The number of the line.
         line: u32,
     },
     /// 66: the cover in this line is of a simplex with a single participant.
     OneParticipant {
-        /// The line.
+        /// The number of the line.
         line: u32,
     },
     /// 67: the cover in this line has no sheet.
     NoSheet {
-        /// The line.
+        /// The number of the line.
         line: u32,
     },
-    /// 68: going round a tuple of the simplex that the cover in this line is of, a sheet doesn't
-    /// come to itself.
+    /// 68: by the cover in this line, going round a tuple of its simplex leads some sheet to
+    /// another one.
     NotFlat {
-        /// The line.
+        /// The number of the line.
         line: u32,
-        /// The place of the tuple among those of the simplex, from 0 on.
+        /// The index of the tuple among those of the simplex.
         tuple: u64,
     },
-    /// 69: the node in this line is above a limit of the checker.
+    /// 69: the node in this line exceeds a limit of the checker.
     TooLarge {
-        /// The line.
+        /// The number of the line.
         line: u32,
         /// The limit.
         limit: CheckerLimit,
@@ -95,13 +95,13 @@ pub enum ObstructionFault {
 /// A limit of the checker of obstructions.
 #[derive(Clone, Copy, Debug, PartialEq, Eq)]
 pub enum CheckerLimit {
-    /// How many nodes with others below them may stand above one another.
+    /// The depth to which nodes with trees below them may be nested.
     Levels,
-    /// How many nodes an obstruction may have.
+    /// The number of nodes.
     Nodes,
-    /// The largest name of a value.
+    /// The largest name, a number, that splits and covers may give to a value.
     Names,
-    /// How many tuples a split or a cover may make.
+    /// The number of tuples that a split or a cover makes.
     Tuples,
 }
 

@@ -1,36 +1,43 @@
-//! The frames of runs over two sources: one gives a task, and the other a text about it.
+//! Runs over two sources: reads a task from one, and a text about the task from the other.
 
 ghost use Rattle.std.specs.Prelude.{ℕ, List, Ok, Result};
 ghost use Rattle.wf_model.specs.Task as model;
-ghost use Rattle.wf_io.specs.Ends.{CanRead};
-ghost use Rattle.wf_io.specs.Seen.{Reading};
+ghost use Rattle.wf_base.specs.Streams.Ends.{CanRead};
+ghost use Rattle.wf_base.specs.Streams.Seen.{Reading};
 ghost use Rattle.wf_complex.specs.Protocol.{Builds};
 ghost use Rattle.wf_run.specs.Run.{Ran, answered};
 ghost use Rattle.wf_run.specs.Sources.{AsksBoth, AsksPair, AsksWithin, CanReadBoth};
 
 use crate::fault::RunFault;
-use crate::steps::{Answered, hand_out, read_task};
+use crate::steps::{Answered, read_task, write_answer};
 use std::alloc::Global;
 use std::io::{Read, Write};
+use wf_base::streams::{Sink, Source};
 use wf_complex::Protocol;
-use wf_io::{Sink, Source};
 use wf_task::Task;
 
-/// What a run answers about a task and a text of another source, beside the text that it writes.
+/// Computes an answer from a task and a text about it. [`run_over_pair`] reads the task, calls
+/// [`of_pair`](PairAnswer::of_pair), and writes the answer's text.
 pub trait PairAnswer {
     ghost use Rattle.wf_run.specs.declared.fault.RunFault.{RunFault};
 
-    /// What is answered.
+    /// The answer that the run returns.
     type Answer: Drop;
 
-    // what is read of the second source about a task, and the answer with its text
+    // the relation between the task, what is read of the second source, and the answer with its
+    // text
     ghost asks: { Self → model.Task → Reading → Reading
         → Result (Self.Answer × List ℕ) RunFault → Type 0 };
 
-    // what has to hold of it before it reads
+    // the condition for calling `of_pair`
     ghost is_ready: { Self → Type 0 } = { λ _. Unit {0} };
 
-    /// The answer about a task and what the second source gives, with its text.
+    /// Reads `source` and returns the answer for `task` and the text that was read, with the
+    /// answer's own text.
+    ///
+    /// # Errors
+    ///
+    /// Returns the reason if there is no answer, as each implementation says.
     fn of_pair<C: Read>(
         &self,
         alloc: Global,
@@ -42,9 +49,16 @@ pub trait PairAnswer {
         ensures { asks self.now task.now source.old source.new (answered result) };
 }
 
-/// Reads a task to its reader's end, and writes the text of what is answered about the task and a
-/// text of the second source. The text is made whole before anything is written. If there is no
-/// task, nothing is read of the second source.
+/// Reads a task to the end of `task_source`, lets `asked` answer for the task and the text in
+/// `source`, and writes the answer's text to `sink`. Returns the answer.
+///
+/// The text is complete before any of it is written. If `task_source` has no task, nothing is read
+/// from `source`.
+///
+/// # Errors
+///
+/// Returns the errors of [`read_task`], of [`PairAnswer::of_pair`] and of [`write_answer`]. Nothing
+/// is written, except that a failed write may have written the beginning of the text.
 pub fn run_over_pair<A: PairAnswer, R: Read, C: Read, W: Write>(
     alloc: Global,
     task_source: &mut Source<R>,
@@ -59,34 +73,41 @@ pub fn run_over_pair<A: PairAnswer, R: Read, C: Read, W: Write>(
 {
     let task = read_task(alloc, task_source)?;
     let answer = asked.of_pair(alloc, &task, source);
-    hand_out(sink, answer)
+    write_answer(sink, answer)
 }
 
-/// What a text is about: a task and its protocol complex after some rounds.
+/// The task that a text is about, with its protocol complex after some number of rounds, and the
+/// allocator to use.
 #[derive(Clone, Copy)]
-pub struct TextSubject<'a> {
-    /// Where memory comes from.
+pub struct TaskWithComplex<'a> {
+    /// The allocator.
     pub alloc: Global,
     /// The task.
     pub task: &'a Task,
-    /// The protocol complex.
+    /// The protocol complex of the task.
     pub protocol: &'a Protocol,
 }
 
-/// What a run reads of a second source about a task's protocol complex, and the text that it makes
-/// of it.
-pub trait SecondText {
+/// Computes a text from a task's protocol complex and a text about the task. [`run_over_both`]
+/// reads the task, builds the complex, calls [`read_about`](ComplexAnswer::read_about), and writes
+/// the result.
+pub trait ComplexAnswer {
     ghost use Rattle.wf_run.specs.declared.fault.RunFault.{RunFault};
 
-    // what is read of the second source about a task after so many rounds
+    // the relation between a task, a number of rounds, what is read of the second source, and the
+    // text
     ghost reads: { Self → model.Task → ℕ → Reading → Reading
         → Result (Unit {0} × List ℕ) RunFault → Type 0 };
 
-    // what has to hold of it before it reads
+    // the condition for calling `read_about`
     ghost is_ready: { Self → Type 0 } = { λ _. Unit {0} };
 
-    /// The text that is made of what is read.
-    fn read_about<C: Read>(&self, subject: &TextSubject, source: &mut Source<C>) -> Answered<()>
+    /// Reads `source` and returns the text about `subject` that is made from it.
+    ///
+    /// # Errors
+    ///
+    /// Returns the reason if there is no text, as each implementation says.
+    fn read_about<C: Read>(&self, subject: &TaskWithComplex, source: &mut Source<C>) -> Answered<()>
         requires ready { is_ready self.now }
         requires source { CanRead source.old }
         requires protocol { Builds subject.now.task.now subject.now.protocol.now.rounds
@@ -95,10 +116,16 @@ pub trait SecondText {
             source.old source.new (answered result) };
 }
 
-/// Reads a task to its reader's end, builds its protocol complex after some rounds, reads the
-/// second source about it, and writes the text that is made of that. Too many rounds or executions
-/// are refused before the second source is read.
-pub fn run_over_both<B: SecondText, R: Read, C: Read, W: Write>(
+/// Reads a task from `task_source` to its end, builds its protocol complex after `rounds` rounds,
+/// reads `source`, and writes the text that `second` makes of both to `sink`.
+///
+/// # Errors
+///
+/// Returns the errors of [`read_task`], `Build` if there are too many rounds or executions, and
+/// then the errors of [`ComplexAnswer::read_about`] and [`write_answer`]. With `Build`, nothing was
+/// read from `source`. Nothing is written, except that a beginning of the text may be if a write
+/// fails.
+pub fn run_over_both<B: ComplexAnswer, R: Read, C: Read, W: Write>(
     alloc: Global,
     task_source: &mut Source<R>,
     source: &mut Source<C>,
@@ -111,18 +138,19 @@ pub fn run_over_both<B: SecondText, R: Read, C: Read, W: Write>(
     ensures { Ran (AsksBoth (B.reads second.now) rounds task_source.old task_source.new
         source.old source.new) sink.old sink.new result }
 {
-    let asked = OnComplex { second, rounds };
+    let asked = WithComplex { second, rounds };
     run_over_pair(alloc, task_source, source, sink, &asked)
 }
 
-/// What is made of the second source on the protocol complex after so many rounds.
+/// An adapter from [`ComplexAnswer`] to [`PairAnswer`]: builds the protocol complex of the task
+/// after `rounds` rounds, and passes it to `second`.
 #[derive(Clone, Copy)]
-struct OnComplex<'a, B> {
+struct WithComplex<'a, B> {
     second: &'a B,
     rounds: u32,
 }
 
-impl<'a, B: SecondText> PairAnswer for OnComplex<'a, B> {
+impl<'a, B: ComplexAnswer> PairAnswer for WithComplex<'a, B> {
     type Answer = ();
 
     ghost asks = { λ on. AsksWithin (B.reads on.second.now) on.rounds };
@@ -131,7 +159,7 @@ impl<'a, B: SecondText> PairAnswer for OnComplex<'a, B> {
 
     fn of_pair<C: Read>(&self, alloc: Global, task: &Task, source: &mut Source<C>) -> Answered<()> {
         let protocol = Protocol::build(alloc, task, self.rounds)?;
-        let subject = TextSubject {
+        let subject = TaskWithComplex {
             alloc,
             task,
             protocol: &protocol,

@@ -1,4 +1,4 @@
-//! Telling the points of a protocol complex in words.
+//! Listing the points of a protocol complex in words.
 
 ghost use Rattle.std.specs.Prelude.{◌≡◌, ◌++◌, ◌<◌, IfOk, OnOk, string_bytes, length, slice_get};
 ghost use Rattle.wf_model.specs.PointsText.{decision_text, point_text, points_text};
@@ -10,8 +10,13 @@ use std::fmt::Write as _;
 use wf_complex::{Protocol, put_view};
 use wf_task::Task;
 
-/// The text that tells the points of a protocol complex, each with the value
-/// that a map has there, if any.
+/// Returns a text with a line for each point of `protocol`: its index, its view in words, and its
+/// value in `map`, if it has one, as in `3 p1 saw {p0=0, p1=0} decides 1`. An empty `map` gives a
+/// list without values.
+///
+/// # Errors
+///
+/// Returns `AllocError` if memory runs out.
 pub fn write_points(
     alloc: Global,
     task: &Task,
@@ -30,7 +35,7 @@ pub fn write_points(
     Ok(text.into_bytes())
 }
 
-/// Adds the line of a point.
+/// Appends the line of `point` to `text`. If `ranks` is true, processes are written by their ranks.
 fn put_point(
     text: &mut String,
     protocol: &Protocol,
@@ -49,14 +54,14 @@ fn put_point(
     Ok(())
 }
 
-/// The value that a map has at a point, if any.
+/// Returns the value of `map` at `point`, or `None` if it has none.
 fn decision_at(map: &[u8], point: u32) -> Option<u8>
     ensures { result ≡ slice_get map.now point }
 {
     map.get(point as usize).copied()
 }
 
-/// Adds the value that is decided, if there is one.
+/// Appends the word `decides` and the value to `text`, if there is a value.
 fn put_decision(text: &mut String, decided: Option<u8>) -> Result<(), AllocError>
     ensures { OnOk result (string_bytes text.new
         ≡ string_bytes text.old ++ decision_text decided) }

@@ -14,9 +14,9 @@ use Rattle.wf_model.specs.Laws.{IsBoxOf}
 use Rattle.wf_model.specs.Split.{is_open}
 use Rattle.wf_model.specs.Outline.{Item, written, left_out, box_left, closed_to, opened_at, opened, boxes_left_out, opened_if, opened_levels, filled, filled_up_to}
 use Rattle.wf_model.proofs.Lemmas.{boxes_append, each_append, closed_branch}
-use Rattle.wf_lines.specs.Lines.{line_of}
-use Rattle.wf_lines.specs.declared.line.Line.{Line}
-use Rattle.wf_set.specs.Sets.{values_in}
+use Rattle.wf_base.specs.Lines.Lines.{line_of}
+use Rattle.wf_base.specs.declared.lines.line.Line.{Line}
+use Rattle.wf_base.specs.Set.Sets.{values_in}
 use Rattle.wf_search.specs.declared.outline.Gap.{Gap}
 use Rattle.wf_search.specs.Cover.{each_seen}
 use Rattle.wf_box.specs.Boxes.{Grows, IsFor, Tracked, WasClosed, box_after}

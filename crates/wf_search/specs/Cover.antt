@@ -8,8 +8,8 @@ use Rattle.wf_model.specs.Split.{IsOrderedCover, split}
 use Rattle.wf_model.specs.Outline.{Item, boxes_left_out, filled, filled_up_to, outline}
 use Rattle.wf_model.specs.Laws.{AreCanonicalForBranches, HasCanonicalLines, HasCanonicalMap, IsClosedBranch, IsRefutedBy, LeadToMap, RefuteBranches}
 use Rattle.wf_box.specs.Boxes.{IsFor, Tracked}
-use Rattle.wf_lines.specs.Lines.{line_of}
-use Rattle.wf_lines.specs.declared.line.Line.{Line}
+use Rattle.wf_base.specs.Lines.Lines.{line_of}
+use Rattle.wf_base.specs.declared.lines.line.Line.{Line}
 
 -- the lines of each list
 abbrev pub each_seen : {A : Type 0} → List (Vec Line A) → List (List refutation.Line)

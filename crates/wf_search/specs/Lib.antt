@@ -3,7 +3,7 @@ pub mod Found
 pub mod FoundMap
 pub mod Cover
 -- What only this crate's own code and proofs use.
-pub mod Pending
+pub mod SearchStack
 pub mod Turning
 pub mod Outline
 -- Worked examples: what the definitions give, by computation.

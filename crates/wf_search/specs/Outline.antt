@@ -9,8 +9,8 @@ use Rattle.wf_model.specs.Laws.{IsBoxOf}
 use Rattle.wf_model.specs.Refutation as refutation
 use Rattle.wf_model.specs.Split.{is_open}
 use Rattle.wf_model.specs.Outline.{Item, written, left_out, boxes_left_out, closed_each}
-use Rattle.wf_lines.specs.Lines.{line_of}
-use Rattle.wf_lines.specs.declared.line.Line.{Line}
+use Rattle.wf_base.specs.Lines.Lines.{line_of}
+use Rattle.wf_base.specs.declared.lines.line.Line.{Line}
 use Rattle.wf_box.specs.Boxes.{IsFor, Tracked}
 use Rattle.wf_search.specs.declared.outline.Gap.{Gap}
 use Rattle.wf_search.specs.declared.outline.Outline.TheInside.{Inside}

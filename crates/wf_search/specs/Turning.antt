@@ -6,7 +6,7 @@ use Rattle.wf_model.specs.Box.{Box}
 use Rattle.wf_model.specs.Refutation as refutation
 use Rattle.wf_model.specs.Closing.{Trace, before, canonical, in_turn}
 use Rattle.wf_model.specs.Laws.{IsBoxOf}
-use Rattle.wf_lines.specs.declared.line.Line.{Line}
+use Rattle.wf_base.specs.declared.lines.line.Line.{Line}
 use Rattle.wf_search.specs.declared.turning.TurnEnd.{TurnEnd}
 use Rattle.wf_search.specs.declared.turning.TurnEnd.TheVariants.{GoesOn, Map, Nothing}
 use Rattle.wf_search.specs.Found.{turns}

@@ -9,23 +9,23 @@ ghost use Rattle.wf_search.specs.Cover.{AreClosedBranches, CoversRoot, IsCanonic
 use crate::outline::Outline;
 use std::alloc::{AllocError, Global};
 use std::marker::Model;
-use wf_box::{Box0, KernelCache, Problem};
-use wf_lines::Lines;
+use wf_base::lines::Lines;
+use wf_box::{Box0, BoxCache, Problem};
 
-/// How often each box is branched at most.
-const MOST_LEVELS: u32 = 8;
+/// Largest number of levels of the split: the boxes are branched at most this often.
+const MAX_LEVELS: u32 = 8;
 
-/// The branches of a problem's root, numbered from 0, and the lines that were
-/// written while the root was cut into them.
+/// The branches of a problem's root, numbered from 0, and the lines that were written while the
+/// root was cut into them.
 ///
-/// Each branch is a closed box with a candidate at every point. Each decision map in the root lies
-/// in one branch, and maps in earlier branches are below those in later ones: so the first branch
-/// that has a map has the least of all. Where none has a map, [`Cover::fill`] makes one refutation
-/// of the root from those of the branches, and where one has, [`Cover::fill_least`] makes the lines
-/// that lead to the least map.
+/// Each branch is a closed box with at least one candidate at every point. Each decision map in the
+/// root lies in exactly one branch, and the maps in earlier branches are below those in later ones,
+/// so the first branch that has a map has the least map of all. If no branch has a map,
+/// [`Cover::fill`] makes one refutation of the root from the refutations of the branches. If one
+/// has, [`Cover::fill_least`] makes the lines that lead to the least map.
 ///
-/// A clause sees it as those lines, with each branch in the place of the
-/// lines that would refute it.
+/// A clause sees it as the lines written so far, with each branch in the place of the lines that
+/// would refute it.
 #[derive(Drop)]
 pub struct Cover {
     outline: Outline,
@@ -44,7 +44,7 @@ impl Model for Cover {
 }
 
 impl Cover {
-    /// How many branches there are: at most 63 boxes with 256 children each. It takes no memory.
+    /// Returns the number of branches, at most 16,128: 63 boxes with 256 branches each.
     pub fn branches(&self) -> u32
         ensures branches { result ≡ length (boxes_left_out self.now) }
         ensures few { result ≤ most_branches }
@@ -52,7 +52,11 @@ impl Cover {
         self.outline.len() as u32
     }
 
-    /// A copy of the branch of this number. Refused for want of memory alone.
+    /// Copies the branch `number` to a box.
+    ///
+    /// # Errors
+    ///
+    /// Returns `AllocError` if memory runs out.
     pub fn branch(&self, alloc: Global, number: u32) -> Result<Box0, AllocError>
         requires { number < length (boxes_left_out self.now) }
         ensures branch { IfOk result (λ boxed. boxed.sets ≡ branch_at self.now number) }
@@ -62,13 +66,16 @@ impl Cover {
         self.outline.copy_box(alloc, number as usize)
     }
 
-    /// The lines of the root, with those of a list for each branch, in order,
-    /// in the places of the branches.
+    /// Returns the lines of the root with those of `lists` in the places of the branches. `lists`
+    /// has one list for each branch, in order.
     ///
-    /// Where each list refutes its branch, the lines refute the root, and
-    /// where each is the one that [`search`] finds, they are those of a search
-    /// of the root. Each list is given back as soon as its lines are copied.
-    /// Refused out of memory alone, and the lists are then given back too.
+    /// If each list refutes its branch, the result refutes the root. If each list has the lines
+    /// that [`search`] finds for its branch, none of which has a map, the result is what a search
+    /// of the root finds. Each list is freed as soon as its lines are copied.
+    ///
+    /// # Errors
+    ///
+    /// Returns `AllocError` if memory runs out; `lists` are then lost.
     ///
     /// [`search`]: crate::search
     pub fn fill(&self, alloc: Global, lists: Vec<Lines>) -> Result<Lines, AllocError>
@@ -80,13 +87,17 @@ impl Cover {
         self.outline.fill(alloc, lists)
     }
 
-    /// The lines of the root up to the last of some lists, one for each of the first branches, in
-    /// order, with those of the lists in the places of these branches.
+    /// Returns the lines of the root up to the last of `lists`, with those of `lists` in the places
+    /// of the first branches. `lists` has at least one list, and one for each of the first
+    /// branches, in order.
     ///
-    /// Where each list is the one that [`search`] finds for its branch, and the
-    /// last alone is that of a map, the lines are those of a search of the root,
-    /// which lead to that map. Each list is given back as soon as its lines are
-    /// copied. Refused out of memory alone, and the lists are then given back too.
+    /// If each list has the lines that [`search`] finds for its branch, and only the last branch
+    /// has a map, the result is what a search of the root finds, and leads to that map. Each list
+    /// is freed as soon as its lines are copied.
+    ///
+    /// # Errors
+    ///
+    /// Returns `AllocError` if memory runs out; `lists` are then lost.
     ///
     /// [`search`]: crate::search
     pub fn fill_least(&self, alloc: Global, lists: Vec<Lines>) -> Result<Lines, AllocError>
@@ -99,25 +110,34 @@ impl Cover {
     }
 }
 
-/// The branches of a problem: its root is closed, and then each box with an open point gives way to
-/// its closed branches at the first such point, level by level, until there are 64 boxes, none is
-/// open, or this was done 8 times. Refused out of memory alone.
+/// Splits the root of `problem` into branches. It closes the root, and then replaces each box that
+/// has an open point by its closed branches at the first such point. It does so level by level
+/// until there are at least 64 boxes, no box has an open point, or 8 levels were done. Boxes that
+/// closing empties are left out.
+///
+/// # Errors
+///
+/// Returns `AllocError` if memory runs out.
 pub fn split(alloc: Global, problem: &Problem) -> Result<Cover, AllocError>
     ensures outline { IfOk result (λ cover. cover ≡ outline problem.now) }
     ensures branches { IfOk result (λ cover. boxes_left_out cover ≡ split problem.now) }
     ensures covers { IfOk result (CoversRoot problem.now) }
     ensures closed { IfOk result (AreClosedBranches problem.now) }
 {
-    let mut answers = KernelCache::new(alloc);
+    let mut answers = BoxCache::new(alloc);
     split_with(alloc, problem, &mut answers)
 }
 
-/// The branches of a problem, as [`split`] cuts them. It begins with the answers of the kernel that
-/// are in the cache, and leaves those that it found.
+/// Splits the root of `problem` into branches, as [`split`] does, with the results that the kernel
+/// cache `answers` holds, and adds new results to it.
+///
+/// # Errors
+///
+/// Returns `AllocError` if memory runs out; the cached results may then be lost.
 pub fn split_with(
     alloc: Global,
     problem: &Problem,
-    answers: &mut KernelCache,
+    answers: &mut BoxCache,
 ) -> Result<Cover, AllocError>
     requires { ServeFor problem.now answers.old }
     ensures outline { IfOk result (λ cover. cover ≡ outline problem.now) }
@@ -126,12 +146,12 @@ pub fn split_with(
     ensures closed { IfOk result (AreClosedBranches problem.now) }
     ensures answers { OnOk result (ServeFor problem.now answers.new) }
 {
-    // for the proof alone, which reads what holds of every problem
+    // only for the proof: this call makes the invariant of every problem known
     let _points = problem.points();
     let mut outline = Outline::of_root(alloc, problem, answers)?;
-    let mut levels: u32 = MOST_LEVELS;
-    'levels: while levels > 0 && outline.is_to_open() {
-        outline = outline.open_each(alloc, problem, answers)?;
+    let mut levels: u32 = MAX_LEVELS;
+    'levels: while levels > 0 && outline.needs_cutting() {
+        outline = outline.branch_each(alloc, problem, answers)?;
         levels -= 1;
     }
     Ok(Cover { outline })

@@ -1,21 +1,21 @@
-//! The search of a box for its map alone.
+//! The search of a box for its least map, without lines.
 
 ghost use Rattle.std.specs.Prelude.{IfOk};
 ghost use Rattle.wf_model.specs.Closing.{canonical};
 ghost use Rattle.wf_box.specs.Boxes.{IsFor, ServeFor};
 ghost use Rattle.wf_search.specs.FoundMap.{HasAskedForMap, IsCanonicalMap, IsRightMap, OnMapStopped};
 
-use crate::pending::Pending;
+use crate::pending::SearchStack;
 use crate::stop::Stop;
 use crate::turning::{TurnEnd, take_turn};
 use std::alloc::{AllocError, Global};
-use wf_box::{Box0, KernelCache, Problem};
-use wf_lines::Lines;
+use wf_base::lines::Lines;
+use wf_box::{Box0, BoxCache, Problem};
 
-/// What a search found, without its lines.
+/// The outcome of a search that keeps no lines.
 #[derive(Drop)]
 pub enum FoundMap {
-    /// The least decision map in the box: the values of the points.
+    /// The least decision map in the box, as the values of the points.
     Map(Vec<u8>),
     /// The box has no decision map.
     Nothing,
@@ -23,17 +23,21 @@ pub enum FoundMap {
     Stopped,
 }
 
-/// What [`search_with`](crate::search_with) finds, by the same turns, without its lines: the least
-/// decision map in a box, or that it has none.
+/// Searches `boxed` like [`search_with`](crate::search_with), by the same turns, but without its
+/// lines: finds the least decision map in the box, or that there is none.
 ///
 /// The lines of a turn are dropped before the next one, so that memory doesn't grow with the number
 /// of turns.
+///
+/// # Errors
+///
+/// Returns `AllocError` if memory runs out; `boxed` and the cached results are then lost.
 pub fn search_map<S: Stop>(
     alloc: Global,
     problem: &Problem,
     boxed: Box0,
     stop: &mut S,
-    answers: &mut KernelCache,
+    answers: &mut BoxCache,
 ) -> Result<FoundMap, AllocError>
     requires boxed { IsFor problem.now boxed }
     requires answers { ServeFor problem.now answers.old }
@@ -44,25 +48,25 @@ pub fn search_map<S: Stop>(
     ensures stopped { IfOk result (OnMapStopped (S.is_stopped stop.new)) }
     ensures answers { ServeFor problem.now answers.new }
 {
-    // for the proof alone, which reads what holds of every problem
+    // only for the proof: this call makes the invariant of every problem known
     let _points = problem.points();
     let mut first = boxed;
-    first.swap_answers(answers);
-    let mut pending = Pending::of(alloc, problem, first);
+    first.swap_cache(answers);
+    let mut pending = SearchStack::of(alloc, problem, first);
     let mut lines: Lines = Vec::new(alloc);
     'turns: loop {
         if stop.stop() {
-            pending.leave(answers);
+            pending.into_cache(answers);
             return Ok(FoundMap::Stopped);
         }
         match take_turn(alloc, &mut pending, &mut lines)? {
             TurnEnd::GoesOn => lines.clear(),
             TurnEnd::Nothing => {
-                pending.leave(answers);
+                pending.into_cache(answers);
                 return Ok(FoundMap::Nothing);
             }
             TurnEnd::Map(values) => {
-                pending.leave(answers);
+                pending.into_cache(answers);
                 return Ok(FoundMap::Map(values));
             }
         }

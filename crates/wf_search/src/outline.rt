@@ -7,7 +7,7 @@ ghost use Rattle.wf_model.specs.Box.{root};
 ghost use Rattle.wf_model.specs.Closing.{closing};
 ghost use Rattle.wf_model.specs.Outline.{boxes_left_out, closed_to, left_out, opened, written};
 ghost use Rattle.wf_model.specs.Split.{is_open};
-ghost use Rattle.wf_lines.specs.Lines.{line_of};
+ghost use Rattle.wf_base.specs.Lines.Lines.{line_of};
 ghost use Rattle.wf_box.specs.Boxes.{Grows, IsFor, ServeFor};
 ghost use Rattle.wf_search.specs.Cover.{IsFilled, IsFilledUpTo, branch_at};
 ghost use Rattle.wf_search.specs.Outline.{AreGapsFilled, IsClosedBox, IsForIfClosed, IsJustClosed, as_written, branches_closed, is_to_open};
@@ -15,14 +15,14 @@ ghost use Rattle.wf_search.specs.Outline.{AreGapsFilled, IsClosedBox, IsForIfClo
 use std::alloc::{AllocError, Global};
 use std::marker::Model;
 use std::mem;
-use wf_box::{Box0, Closed, KernelCache, Problem, Snapshot, close};
-use wf_lines::{Line, Lines};
-use wf_set::split_first;
+use wf_base::lines::{Line, Lines};
+use wf_base::set::split_first;
+use wf_box::{Box0, BoxCache, Closed, Problem, Snapshot, close};
 
-/// Boxes that are enough to share out.
+/// Number of boxes from which on the root is not cut any further.
 const ENOUGH_BOXES: usize = 64;
 
-/// A box in the place of the lines that refute it, and the lines that come before.
+/// A box in the place of the lines that refute it, and the lines before it.
 #[derive(Drop)]
 struct Gap {
     before: Lines,
@@ -33,7 +33,7 @@ struct Gap {
 #[derive(Drop)]
 pub(crate) struct Outline {
     gaps: Vec<Gap>,
-    // the lines past the last box
+    // the lines after the last box
     after: Lines,
 }
 
@@ -51,11 +51,12 @@ impl Model for Outline {
 }
 
 impl Outline {
-    /// The lines of closing a problem's root, with those that refute what it leaves left out.
+    /// Creates the outline of a problem's root that is closed but not yet cut: the lines of closing
+    /// the root, and then the closed box, unless a point became empty.
     pub(crate) fn of_root(
         alloc: Global,
         problem: &Problem,
-        answers: &mut KernelCache,
+        answers: &mut BoxCache,
     ) -> Result<Outline, AllocError>
         requires { ServeFor problem.now answers.old }
         ensures root { IfOk result (λ outline.
@@ -66,13 +67,13 @@ impl Outline {
     {
         let mut outline = Outline::new(alloc);
         let mut root = Box0::root(alloc, problem)?;
-        root.swap_answers(answers);
+        root.swap_cache(answers);
         outline.close(alloc, problem, &mut root)?;
-        root.swap_answers(answers);
+        root.swap_cache(answers);
         Ok(outline)
     }
 
-    /// No line and no box.
+    /// Creates an outline with no line and no box.
     fn new(alloc: Global) -> Outline
         ensures { result ≡ [] }
     {
@@ -82,14 +83,14 @@ impl Outline {
         }
     }
 
-    /// How many boxes it has.
+    /// Returns the number of boxes.
     pub(crate) fn len(&self) -> usize
         ensures { result ≡ length (boxes_left_out self.now) }
     {
         self.gaps.len()
     }
 
-    /// A copy of the box of this number.
+    /// Copies the box with index `number`.
     pub(crate) fn copy_box(&self, alloc: Global, number: usize) -> Result<Box0, AllocError>
         requires { number < length (boxes_left_out self.now) }
         ensures branch { IfOk result (λ boxed. boxed.sets ≡ branch_at self.now number) }
@@ -98,14 +99,16 @@ impl Outline {
         self.gaps[number].boxed.to_box(alloc)
     }
 
-    /// Whether there are too few boxes, and one of them is open.
-    pub(crate) fn is_to_open(&self) -> bool
+    /// Returns whether the boxes should be cut further: there are fewer than [`ENOUGH_BOXES`], and
+    /// one of them has an open point.
+    pub(crate) fn needs_cutting(&self) -> bool
         ensures { result ≡ is_to_open self.now }
     {
         self.gaps.len() < ENOUGH_BOXES && has_open(&self.gaps)
     }
 
-    /// The lines with those of the lists in the places of the boxes.
+    /// Returns the lines with those of `lists` in the places of the boxes. `lists` has one list for
+    /// each box.
     pub(crate) fn fill(&self, alloc: Global, lists: Vec<Lines>) -> Result<Lines, AllocError>
         requires { length lists.items ≡ length (boxes_left_out self.now) }
         ensures { IfOk result (IsFilled self.now lists.items) }
@@ -115,8 +118,8 @@ impl Outline {
         Ok(lines)
     }
 
-    /// The lines up to the last of the lists, with those of the lists in the
-    /// places of the first boxes.
+    /// Returns the lines up to the last of `lists`, with those of `lists` in the places of the
+    /// first boxes.
     pub(crate) fn fill_up_to(&self, alloc: Global, lists: Vec<Lines>) -> Result<Lines, AllocError>
         requires some { 0 < length lists.items }
         requires few { length lists.items ≤ length (boxes_left_out self.now) }
@@ -125,7 +128,7 @@ impl Outline {
         fill_gaps(alloc, &self.gaps, lists)
     }
 
-    /// Writes a line.
+    /// Appends a line.
     fn write(&mut self, line: Line) -> Result<(), AllocError>
         ensures { OnOk result (self.new ≡ self.old ++ written (line_of line) ∷ []) }
     {
@@ -133,7 +136,7 @@ impl Outline {
         Ok(())
     }
 
-    /// Writes some lines.
+    /// Appends `lines`.
     fn write_all(&mut self, lines: &[Line]) -> Result<(), AllocError>
         ensures { OnOk result (self.new ≡ self.old ++ as_written lines.now) }
     {
@@ -141,19 +144,21 @@ impl Outline {
         Ok(())
     }
 
-    /// Leaves out the lines that refute a box, which was closed just now.
+    /// Appends the box `boxed` in the place of the lines that refute it. The box must just have
+    /// been closed.
     fn leave_out(&mut self, alloc: Global, boxed: Snapshot) -> Result<(), AllocError>
         requires { IsJustClosed boxed }
         ensures { OnOk result (self.new ≡ self.old ++ left_out boxed.sets ∷ []) }
     {
         let mut before = mem::replace(&mut self.after, Vec::new(alloc));
-        // closing had room for a line for each candidate
+        // closing reserved room for one line for each candidate
         before.shrink_to_fit();
         self.gaps.push(Gap { before, boxed })?;
         Ok(())
     }
 
-    /// Writes the lines of closing a box, and leaves out those that refute what it leaves.
+    /// Closes `boxed` and appends the lines of that. Unless a point became empty, it then appends
+    /// the closed box in the place of the lines that refute it.
     fn close(
         &mut self,
         alloc: Global,
@@ -172,8 +177,9 @@ impl Outline {
         }
     }
 
-    /// Closes each branch of a box at a point, and leaves out the boxes that stay open or decided.
-    /// The box is given back as it was.
+    /// Closes each branch of `boxed` at `point`, in ascending order of the candidates, and appends
+    /// its lines, and its closed box unless a point became empty. Returns `boxed` with its
+    /// candidates restored.
     fn close_branches(
         &mut self,
         alloc: Global,
@@ -200,14 +206,14 @@ impl Outline {
         Ok(boxed)
     }
 
-    /// Writes the branching of a closed box and the lines of closing its branches; where it has no
-    /// open point, the lines that refute it are left out.
+    /// Appends the branching of `boxed` at its first open point, and the closed branches with their
+    /// lines. If no point is open, appends `boxed` itself. `boxed` must be closed.
     fn open(
         &mut self,
         alloc: Global,
         problem: &Problem,
         boxed: Snapshot,
-        answers: &mut KernelCache,
+        answers: &mut BoxCache,
     ) -> Result<(), AllocError>
         requires boxed { IsFor problem.now boxed }
         requires closed { IsJustClosed boxed }
@@ -221,20 +227,20 @@ impl Outline {
             Some(point) => {
                 self.write(Line::Branch { point })?;
                 let mut opened = boxed.to_box(alloc)?;
-                opened.swap_answers(answers);
+                opened.swap_cache(answers);
                 let mut left = self.close_branches(alloc, problem, opened, point)?;
-                left.swap_answers(answers);
+                left.swap_cache(answers);
                 Ok(())
             }
         }
     }
 
-    /// Each open box gives way to its branches, and the others stay.
-    pub(crate) fn open_each(
+    /// Replaces each box with an open point by its closed branches, and keeps the other boxes.
+    pub(crate) fn branch_each(
         self,
         alloc: Global,
         problem: &Problem,
-        answers: &mut KernelCache,
+        answers: &mut BoxCache,
     ) -> Result<Outline, AllocError>
         requires boxes { AllByRecursion (IsClosedBox problem.now) (boxes_left_out self) }
         requires answers { ServeFor problem.now answers.old }
@@ -252,15 +258,15 @@ impl Outline {
     }
 }
 
-/// Whether one of the boxes is open.
+/// Returns whether one of the boxes has an open point.
 fn has_open(gaps: &[Gap]) -> bool
     ensures { result ≡ list_any (λ gap. is_open gap.boxed.sets) gaps.now }
 {
     gaps.iter().any(|gap| gap.boxed.first_open().is_some())
 }
 
-/// The lines before each box and those of its list, for as many boxes as there are lists. Each list
-/// is given back as soon as its lines are copied.
+/// Returns the lines before each box followed by those of its list, for as many boxes as there are
+/// lists. Each list is freed as soon as its lines are copied.
 fn fill_gaps(alloc: Global, gaps: &[Gap], lists: Vec<Lines>) -> Result<Lines, AllocError>
     ensures { IfOk result (AreGapsFilled gaps.now lists.items) }
 {

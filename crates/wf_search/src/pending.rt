@@ -1,23 +1,23 @@
-//! The boxes that a search has still to go through.
+//! The search stack: the boxes that a search still has to go through.
 
 ghost use Rattle.std.specs.Prelude.{◌≡◌, ◌<◌, ◌∷◌, [], None, length, OnOk, IfOk};
 ghost use Rattle.std.specs.Bool.{OnTrue, OnFalse};
 ghost use Rattle.wf_model.specs.Box.{candidates, first_empty, first_open};
-ghost use Rattle.wf_set.specs.Sets.{values_in};
+ghost use Rattle.wf_base.specs.Set.Sets.{values_in};
 ghost use Rattle.wf_box.specs.Boxes.{IsFor, ServeFor};
 ghost use Rattle.wf_box.specs.Closes.{Leaves};
 ghost use Rattle.wf_box.specs.Least.{least_values};
 ghost use Rattle.wf_search.specs.Outline.{Adds};
-ghost use Rattle.wf_search.specs.Pending.{HasFirst, closed_first, first, first_branched, others};
+ghost use Rattle.wf_search.specs.SearchStack.{HasFirst, closed_first, first, first_branched, others};
 
 use std::alloc::{AllocError, Global};
 use std::marker::Model;
-use wf_box::{Box0, Closed, KernelCache, Mark, Problem, close};
-use wf_lines::Lines;
-use wf_set::{Mask, is_empty, split_first};
+use wf_base::lines::Lines;
+use wf_base::set::{Mask, is_empty, split_first};
+use wf_box::{Box0, BoxCache, Closed, Mark, Problem, close};
 
-/// A point at which the box branched: the state of the box then, and the point's values whose
-/// branches are still to come.
+/// An entry of the search stack: a point at which the box branched, the state of the box before
+/// that, and the candidates whose branches are still to be searched.
 #[derive(Clone, Copy, Debug)]
 struct Frame {
     mark: Mark,
@@ -25,20 +25,21 @@ struct Frame {
     left: Mask,
 }
 
-/// The boxes of a problem that are still to be searched, in order, of which there is one at least.
+/// The boxes of a problem that are still to be searched, in order. There is always at least one.
 ///
-/// The first one is at hand. The others are branches of earlier states of the same box, and it is
-/// made each of them in turn. Nothing outside this file knows how the boxes are kept.
+/// Only the first box exists in memory. The others are branches of its earlier states: to get to
+/// the next one, the box is undone to such a state, and one candidate is chosen. This
+/// representation is private to the module.
 #[derive(Drop)]
-pub(crate) struct Pending<'a> {
+pub(crate) struct SearchStack<'a> {
     problem: &'a Problem,
     current: Box0,
-    // the last one that branched comes last, and each has a value left
+    // the last branching comes last, and each entry has at least one candidate left
     frames: Vec<Frame>,
 }
 
-impl<'a> Model for Pending<'a> {
-    ghost use Rattle.wf_search.specs.Pending.{Boxes, IsPending, pending_seen};
+impl<'a> Model for SearchStack<'a> {
+    ghost use Rattle.wf_search.specs.SearchStack.{Boxes, IsPending, pending_seen};
 
     ghost Value = { Boxes };
 
@@ -47,20 +48,20 @@ impl<'a> Model for Pending<'a> {
     ghost invariant = { IsPending };
 }
 
-impl<'a> Pending<'a> {
-    /// This box alone.
-    pub(crate) fn of(alloc: Global, problem: &'a Problem, boxed: Box0) -> Pending<'a>
+impl<'a> SearchStack<'a> {
+    /// Creates the stack that has only the box `boxed`.
+    pub(crate) fn of(alloc: Global, problem: &'a Problem, boxed: Box0) -> SearchStack<'a>
         requires { IsFor problem.now boxed }
         ensures { result ≡ record { problem = problem.now; boxes = boxed.sets ∷ [] } }
     {
-        Pending {
+        SearchStack {
             problem,
             current: boxed,
             frames: Vec::new(alloc),
         }
     }
 
-    /// Closes the first box.
+    /// Closes the first box, and appends the lines of that.
     pub(crate) fn close(&mut self, alloc: Global, lines: &mut Lines) -> Result<Closed, AllocError>
         ensures lines { OnOk result
             (Adds lines.old.items lines.new.items (closed_first self.old).lines) }
@@ -73,15 +74,15 @@ impl<'a> Pending<'a> {
         close(alloc, self.problem, &mut self.current, lines)
     }
 
-    /// The first open point of the first box.
-    pub(crate) fn find_open(&mut self) -> Option<u32>
+    /// Returns the first open point of the first box.
+    pub(crate) fn advance_to_open(&mut self) -> Option<u32>
         ensures found { result ≡ first_open (first self.old.boxes) }
         ensures same { self.new ≡ self.old }
     {
-        self.current.find_open()
+        self.current.advance_to_open()
     }
 
-    /// The least candidate of each point of the first box.
+    /// Returns the least candidate of each point of the first box. Each point must have one.
     pub(crate) fn least_values(&self, alloc: Global) -> Result<Vec<u8>, AllocError>
         requires filled { first_empty (first self.now.boxes) ≡ None }
         ensures values { IfOk result (λ values.
@@ -90,7 +91,8 @@ impl<'a> Pending<'a> {
         self.current.least_values(alloc)
     }
 
-    /// Puts in the first box's place its branches at a point.
+    /// Replaces the first box by its branches at `point`, in ascending order of the candidates. The
+    /// point must be open.
     pub(crate) fn branch(&mut self, point: u32) -> Result<(), AllocError>
         requires { 1 < length (candidates (first self.old.boxes) point) }
         ensures branches { OnOk result (self.new.boxes ≡ first_branched self.old.boxes point) }
@@ -109,7 +111,8 @@ impl<'a> Pending<'a> {
         Ok(())
     }
 
-    /// Drops the first box, and says whether another one is left.
+    /// Drops the first box, and goes on to the next one. Returns `false`, and drops nothing, if
+    /// there is no other box.
     pub(crate) fn next(&mut self) -> bool
         ensures some { OnTrue result (self.new.boxes ≡ others self.old.boxes) }
         ensures none { OnFalse result (others self.old.boxes ≡ []) }
@@ -129,16 +132,16 @@ impl<'a> Pending<'a> {
         true
     }
 
-    /// Leaves the answers that were kept.
-    pub(crate) fn leave(self, answers: &mut KernelCache)
+    /// Moves the kernel cache of the box to `answers`.
+    pub(crate) fn into_cache(self, answers: &mut BoxCache)
         ensures { ServeFor self.entry.problem answers.new }
     {
         let mut current = self.current;
-        current.swap_answers(answers);
+        current.swap_cache(answers);
     }
 }
 
-/// The least value of a set that has one, and the set without it.
+/// Splits off the least value of `set`, which must not be empty.
 fn split(set: Mask) -> (u8, Mask)
     requires { 0 < length (values_in set) }
     ensures { values_in set ≡ result.0 ∷ values_in result.1 }

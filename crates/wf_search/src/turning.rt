@@ -1,30 +1,31 @@
-//! A turn of a search.
+//! Performs one turn of a search: closes the first box, and branches at its first open point.
 
 ghost use Rattle.std.specs.Prelude.{◌≡◌, IfOk};
-ghost use Rattle.wf_search.specs.Pending.{HasFirst};
+ghost use Rattle.wf_search.specs.SearchStack.{HasFirst};
 ghost use Rattle.wf_search.specs.Turning.{AreBoxesOf, IsTurn};
 
-use crate::pending::Pending;
+use crate::pending::SearchStack;
 use std::alloc::{AllocError, Global};
+use wf_base::lines::{Line, Lines};
 use wf_box::Closed;
-use wf_lines::{Line, Lines};
 
-/// How a turn ends.
+/// The outcome of a turn.
 #[derive(Drop)]
 pub(crate) enum TurnEnd {
-    /// The search goes on.
+    /// At least one box is still to be searched.
     GoesOn,
-    /// No box is left.
+    /// No box is left: there is no decision map.
     Nothing,
-    /// The first box is a map: the values of the points.
+    /// The first box is a decision map: the values of the points.
     Map(Vec<u8>),
 }
 
-/// Closes the first box. Where that leaves an open point, the box's branches at the first such
-/// point come next; where it empties a point, the box after it does.
+/// Closes the first box of `pending`, and appends its lines. If that leaves an open point, the
+/// branches of the box at the first such point take its place; if it leaves none, the box is a map;
+/// if a point became empty, the box is dropped.
 pub(crate) fn take_turn(
     alloc: Global,
-    pending: &mut Pending,
+    pending: &mut SearchStack,
     lines: &mut Lines,
 ) -> Result<TurnEnd, AllocError>
     requires { AreBoxesOf pending.old.problem pending.old.boxes }
@@ -41,7 +42,7 @@ pub(crate) fn take_turn(
                 Ok(TurnEnd::Nothing)
             }
         }
-        Closed::Open { .. } => match pending.find_open() {
+        Closed::Open { .. } => match pending.advance_to_open() {
             None => {
                 lines.push(Line::Found)?;
                 let values = pending.least_values(alloc)?;

@@ -1,4 +1,4 @@
-//! The board in one thread, in a known order, and under four threads, in whatever order.
+//! Tests of the board in one thread, in a known order, and in four threads, in any order.
 
 ghost use Rattle.std.specs.Prelude.{ℕ, ◌≡◌, ◌+◌, ◌<◌, length, All};
 ghost use Rattle.std.specs.Thread.{IsSync};
@@ -14,7 +14,7 @@ use wf_core::{Account, Status};
 
 const BRANCHES: u32 = 64;
 
-/// A fresh seat of the board.
+/// Removes the last of `seats` and returns it. All of them are fresh seats of `board`.
 fn next_seat(board: &Board, seats: &mut Vec<BoardSeat>) -> BoardSeat
     requires { (0 < length seats.old.items) × All (λ d. d ≡ fresh_desk board.now) seats.old.items }
     ensures seat { result ≡ fresh_desk board.now }
@@ -24,7 +24,7 @@ fn next_seat(board: &Board, seats: &mut Vec<BoardSeat>) -> BoardSeat
     seats.pop().unwrap()
 }
 
-/// What two seats did.
+/// Finishes `board`, whose two seats are `first` and `second`, and returns its account.
 fn account_of(
     alloc: Global,
     board: Board,
@@ -40,6 +40,7 @@ fn account_of(
     Ok(board.finish(seats))
 }
 
+/// Checks that a look or a post returns the least branch that any seat has posted.
 #[test]
 fn a_look_shows_what_others_posted(rt: HostRuntime) -> Result<(), Fail> {
     let (board, mut seats) = Board::make(rt.alloc(), 3, 2)?;
@@ -64,6 +65,7 @@ fn a_look_shows_what_others_posted(rt: HostRuntime) -> Result<(), Fail> {
     Ok(())
 }
 
+/// Checks that the account counts posts, refutations and cuts.
 #[test]
 fn counts_posts_refutals_and_cuts(rt: HostRuntime) -> Result<(), Fail> {
     let (board, mut seats) = Board::make(rt.alloc(), 3, 2)?;
@@ -84,15 +86,17 @@ fn counts_posts_refutals_and_cuts(rt: HostRuntime) -> Result<(), Fail> {
     Ok(())
 }
 
-/// What a worker does with its sixteen branches.
+/// The way in which a worker settles its sixteen branches.
 #[derive(Clone, Copy)]
 enum Plan {
-    // Posts each.
+    // posts each branch
     Post,
-    // Looks first, and cuts a branch above the least; else every third branch has a map.
+    // looks first, and cuts a branch above the least posted one; otherwise posts every third
+    // branch, and refutes the others
     Search,
 }
 
+/// A worker with its seat and its plan.
 #[derive(Drop)]
 struct Job {
     worker: u32,
@@ -100,14 +104,15 @@ struct Job {
     plan: Plan,
 }
 
-/// A seat, and what became of each branch through it.
+/// The seat of a worker that is done, and the status of each branch: `Free` for those of other
+/// workers.
 #[derive(Drop)]
 struct Worked {
     seat: BoardSeat,
     statuses: [Status; 64],
 }
 
-/// Settles a branch as planned.
+/// Settles `branch` as `plan` says, and returns its status.
 fn settle(board: &Board, seat: &mut BoardSeat, branch: u32, plan: Plan) -> Status
     requires board { (seat.old.table ≡ board.now.table) × (seat.old.branches ≡ board.now.branches) }
     requires branch { (branch < board.now.branches) × (times branch (settled seat.old) ≡ 0) }
@@ -132,7 +137,7 @@ fn settle(board: &Board, seat: &mut BoardSeat, branch: u32, plan: Plan) -> Statu
     Status::Refuted
 }
 
-/// Settles every fourth branch, in scattered order.
+/// Settles every fourth branch, from `worker` on, in scattered order.
 fn work(board: &Board, job: Job) -> Worked
     requires { (board.now.branches ≡ BRANCHES) × (job.worker < 4)
         × (job.seat ≡ fresh_desk board.now) }
@@ -154,6 +159,7 @@ fn work(board: &Board, job: Job) -> Worked
     Worked { seat, statuses }
 }
 
+/// Runs two workers at once.
 fn two<R: Threads + Sync>(rt: &R, board: &Board, first: Job, second: Job) -> (Worked, Worked)
     requires board { board.now.branches ≡ BRANCHES }
     requires first { (first.worker < 4) × (first.seat ≡ fresh_desk board.now) }
@@ -166,7 +172,7 @@ fn two<R: Threads + Sync>(rt: &R, board: &Board, first: Job, second: Job) -> (Wo
     join(rt, move || work(board, first), move || work(board, second))
 }
 
-/// All four workers at once.
+/// Runs all four workers at once.
 fn four<R: Threads + Sync>(
     rt: &R,
     board: &Board,
@@ -212,7 +218,8 @@ fn four<R: Threads + Sync>(
     )
 }
 
-/// The account of all four, and what became of each branch through each of them.
+/// Runs four workers on a new board, and returns its account and the statuses of the branches by
+/// worker.
 fn run<R: Threads + Sync>(
     rt: &R,
     alloc: Global,
@@ -265,7 +272,7 @@ fn run<R: Threads + Sync>(
     Ok((board.finish(seats), statuses))
 }
 
-/// The account of what became of the branches through each of four workers.
+/// Computes the account from the statuses of the branches by worker.
 fn counted(statuses: &[[Status; 64]; 4]) -> Account {
     let mut account = Account {
         branches: BRANCHES,
@@ -289,6 +296,7 @@ fn counted(statuses: &[[Status; 64]; 4]) -> Account {
     account
 }
 
+/// Checks the account of four threads that post all branches.
 #[test]
 fn four_threads_post_all_branches(rt: HostRuntime) -> Result<(), Fail> {
     let wanted = Account {
@@ -304,6 +312,7 @@ fn four_threads_post_all_branches(rt: HostRuntime) -> Result<(), Fail> {
     Ok(())
 }
 
+/// Checks that the account agrees with what the threads saw, whatever order they ran in.
 #[test]
 fn the_account_is_exact_in_any_schedule(rt: HostRuntime) -> Result<(), Fail> {
     for _ in 0..1000 {

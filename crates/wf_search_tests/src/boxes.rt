@@ -1,4 +1,4 @@
-//! Boxes and closing, with rows worked out by hand.
+//! Tests of boxes and of closing, with values that were worked out by hand.
 
 ghost use Rattle.std.specs.Prelude.{◌<◌, OnOk, IfOk};
 ghost use Rattle.wf_box.specs.Boxes.{IsFor};
@@ -6,21 +6,23 @@ ghost use Rattle.wf_box.specs.Boxes.{IsFor};
 use crate::tasks::problem_of;
 use std::alloc::{AllocError, Global};
 use std::test::Fail;
+use wf_base::lines::{Line, Lines};
+use wf_base::set::{contains, low_set64};
 use wf_box::{Box0, Closed, Problem, close};
 use wf_examples::{CONSENSUS_2, ONE_WITHOUT_OUTPUT, PATH_2, RENAMING_2_2, SYMMETRIC_201};
-use wf_lines::{Line, Lines};
-use wf_set::{first_part, holds};
 
-/// The candidates of each point, a bit for each value, of which all are below 64.
+/// Returns the candidates of each point as a word with a bit for each value. All values are below
+/// 64.
 fn candidates_of(alloc: Global, boxed: &Box0) -> Result<Vec<u64>, AllocError> {
     let mut all = Vec::new(alloc);
     for point in 0..boxed.points() {
-        all.push(first_part(boxed.candidates(point)))?;
+        all.push(low_set64(boxed.candidates(point)))?;
     }
     Ok(all)
 }
 
-/// A closed root.
+/// A root with the expected result of closing it: how closing ends, its lines, and the remaining
+/// candidates of each point.
 struct Root {
     task: &'static str,
     rounds: u32,
@@ -29,9 +31,10 @@ struct Root {
     left: &'static [u64],
 }
 
-/// In the execution of all three of `SYMMETRIC_201`, which has number 6, process 0 can't have 1,
-/// process 1 neither 1 nor 2 and process 2 not 2. Their one point stands there three times, and
-/// each value is named once. Without an output the point has no candidate at the start.
+/// Roots with the expected results of closing them. In execution 6 of `SYMMETRIC_201`, that of all
+/// three processes, process 0 can't decide 1, process 1 neither 1 nor 2, and process 2 not 2. All
+/// three have the same point there, so each lost value has only one line. Without an output the
+/// point has no candidate from the start.
 static ROOTS: [Root; 4] = [
     Root {
         task: PATH_2,
@@ -75,7 +78,8 @@ static ROOTS: [Root; 4] = [
     },
 ];
 
-/// Whether the root of a problem, closed, ends so, with these lines and candidates.
+/// Returns whether closing the root of `problem` has the result, the lines and the remaining
+/// candidates of `root`.
 fn is_closed_so(alloc: Global, problem: &Problem, root: &Root) -> Result<bool, AllocError> {
     let mut boxed = Box0::root(alloc, problem)?;
     let mut lines: Lines = Vec::new(alloc);
@@ -84,12 +88,13 @@ fn is_closed_so(alloc: Global, problem: &Problem, root: &Root) -> Result<bool, A
     Ok(is_wanted && are_left(alloc, &boxed, root.left)?)
 }
 
-/// Whether a box has these candidates.
+/// Returns whether `left` are the candidates of the points of `boxed`.
 fn are_left(alloc: Global, boxed: &Box0, left: &[u64]) -> Result<bool, AllocError> {
     let candidates = candidates_of(alloc, boxed)?;
     Ok(candidates.as_slice() == left)
 }
 
+/// Checks that closing each root of [`ROOTS`] has its expected result.
 #[test]
 fn roots_are_closed(rt: HostRuntime) -> Result<(), Fail> {
     for root in &ROOTS {
@@ -100,20 +105,20 @@ fn roots_are_closed(rt: HostRuntime) -> Result<(), Fail> {
     Ok(())
 }
 
-/// The candidates of a point that the box has.
+/// Returns the candidates of `point` as a word, or 0 if the box has no such point.
 fn candidates_at(boxed: &Box0, point: u32) -> u64 {
     if point < boxed.points() {
-        first_part(boxed.candidates(point))
+        low_set64(boxed.candidates(point))
     } else {
         0
     }
 }
 
-/// How many sweeps it takes to close a box, the candidates of point 3 then, and the lines.
+/// The number of sweeps that closing took, the candidates of point 3 after it, and its lines.
 type Trial = (u32, u64, Lines);
 
-/// Gives point 2 the value, closes the box, and takes that back. No sweep where the value is no
-/// candidate, or a point is emptied.
+/// Decides `value` at point 2, closes the box, and undoes both. The number of sweeps is 0 if
+/// `value` is no candidate or if a point is emptied.
 fn try_in_place(
     alloc: Global,
     problem: &Problem,
@@ -124,7 +129,7 @@ fn try_in_place(
     ensures boxed { OnOk result (IsFor problem.now boxed.new) }
 {
     let mut lines: Lines = Vec::new(alloc);
-    if boxed.points() <= 3 || !holds(boxed.candidates(2), value) {
+    if boxed.points() <= 3 || !contains(boxed.candidates(2), value) {
         return Ok((0, 0, lines));
     }
     let mark = boxed.mark();
@@ -138,7 +143,7 @@ fn try_in_place(
     }
 }
 
-/// A problem and its root, closed.
+/// Returns the problem of the task of `text` after `rounds` rounds, and its root, closed.
 fn closed_root(alloc: Global, text: &str, rounds: u32) -> Result<(Problem, Box0), Fail>
     ensures { IfOk result (λ r. IsFor r.0 r.1) }
 {
@@ -149,7 +154,8 @@ fn closed_root(alloc: Global, text: &str, rounds: u32) -> Result<(Problem, Box0)
     Ok((problem, boxed))
 }
 
-/// How many sweeps a value takes, the candidates of point 3 then, and the lines.
+/// The expected result of deciding `value` at point 2: the number of sweeps, the candidates of
+/// point 3 after them, and the lines.
 struct Wanted {
     value: u8,
     sweeps: u32,
@@ -157,7 +163,7 @@ struct Wanted {
     lines: &'static [Line],
 }
 
-/// Whether a value of point 2 comes to that.
+/// Returns whether deciding the value of `wanted` at point 2 has the expected result.
 fn comes_to(
     alloc: Global,
     problem: &Problem,
@@ -171,8 +177,9 @@ fn comes_to(
     Ok(sweeps == wanted.sweeps && third == wanted.third && lines.as_slice() == wanted.lines)
 }
 
-/// Whether a value of point 2 of the path's closed root comes to that in a copy of the box and in
-/// the box itself; and whether the box is as it was.
+/// Returns whether deciding the value of `wanted` at point 2 has the expected result in a copy of
+/// `boxed` and in `boxed` itself, and whether `boxed`, the closed root of the path, is unchanged
+/// then.
 fn is_tried(
     alloc: Global,
     problem: &Problem,
@@ -188,7 +195,7 @@ fn is_tried(
     Ok(in_copy && in_place && are_left(alloc, boxed, &[1, 4, 6, 3])?)
 }
 
-/// Point 2 has 1 and 2 left.
+/// The expected result of deciding 1 at point 2, whose candidates in the closed root are 1 and 2.
 static ONE: Wanted = Wanted {
     value: 1,
     sweeps: 1,
@@ -203,6 +210,7 @@ static TWO: Wanted = Wanted {
     lines: &[lost!(2, 1, 0)],
 };
 
+/// Checks that undoing to a mark restores a box after a point was decided and the box was closed.
 #[test]
 fn a_box_is_given_an_earlier_state(rt: HostRuntime) -> Result<(), Fail> {
     let (problem, mut boxed) = closed_root(rt.alloc(), PATH_2, 1)?;
@@ -213,8 +221,9 @@ fn a_box_is_given_an_earlier_state(rt: HostRuntime) -> Result<(), Fail> {
     Ok(())
 }
 
-/// In both tasks executions 0 and 1 are those of one process, and 2 is the first one of both. Alone
-/// the two have different values on the path, and the same ones in renaming.
+/// Checks which execution stands for each rule. In both tasks executions 0 and 1 are those of one
+/// process alone, and 2 is the first one of both. The processes alone have different tuples on the
+/// path, and the same ones in renaming, so that execution 0 stands for both.
 #[test]
 fn an_execution_stands_for_each_rule(rt: HostRuntime) -> Result<(), Fail> {
     for (text, leads) in [(PATH_2, [0, 1, 2]), (RENAMING_2_2, [0, 0, 2])] {

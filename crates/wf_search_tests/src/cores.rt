@@ -1,4 +1,4 @@
-//! Lists of events with what they leave, worked out by hand.
+//! Tests of lists of events and the states that they lead to, worked out by hand.
 
 use std::alloc::Global;
 use std::test::Fail;
@@ -48,6 +48,7 @@ const TAKE_1_1: Event = Event::Take {
 
 const LOOK_2: Event = Event::Look { worker: 2 };
 
+/// Checks the state after a legal list of events.
 #[test]
 fn runs_a_legal_list(rt: HostRuntime) -> Result<(), Fail> {
     let events = [
@@ -61,11 +62,13 @@ fn runs_a_legal_list(rt: HostRuntime) -> Result<(), Fail> {
     Ok(())
 }
 
-/// Why a list of events is refused.
+/// Returns the fault of `events` for three branches and two workers, or `None` if the list is
+/// legal.
 fn fault_of(alloc: Global, events: &[Event]) -> Option<CoreFault> {
     Core::run(alloc, 3, 2, events).err()
 }
 
+/// Checks that a list of events is refused at its first illegal one, with the reason.
 #[test]
 fn refuses_at_the_first_illegal_event(rt: HostRuntime) {
     let taken_twice = [

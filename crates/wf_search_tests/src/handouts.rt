@@ -1,4 +1,4 @@
-//! Takes in one thread, in a known order, and in several threads, in whatever order.
+//! Tests of handouts: takes in one thread, in a known order, and in several threads, in any order.
 
 ghost use Rattle.std.specs.Prelude.{ℕ, ◌≡◌, ◌*◌, ◌^◌, ◌<◌, length};
 ghost use Rattle.wf_handout.specs.Shares.{AllAt};
@@ -10,8 +10,8 @@ use std::thread;
 use std::thread::Threads;
 use wf_handout::{Counter, Handout, Stealing};
 
-/// Takes of so many branches, by a first share and so many others: whose share takes, one after the
-/// other, what it takes, and what is left of the branches then.
+/// A sequence of takes from a handout of `branches` branches to `others` + 1 shares: the index of
+/// the share that takes, what each take gets, and which branches are left at the end.
 struct Takes {
     branches: u8,
     others: u8,
@@ -44,8 +44,9 @@ static OF_A_COUNTER: [Takes; 3] = [
     },
 ];
 
-/// A share steals what another one was dealt, the last share from the first. One that found the
-/// next deque empty has ended, though a third has branches.
+/// Takes from deques. A share whose own deque is empty steals from that of the next share, and the
+/// last share from the first. A share that finds the next deque empty has ended, even if a third
+/// one has branches.
 static OF_THE_DEQUES: [Takes; 6] = [
     Takes {
         branches: 5,
@@ -91,7 +92,7 @@ static OF_THE_DEQUES: [Takes; 6] = [
     },
 ];
 
-/// A take by one of several shares.
+/// Takes a branch for the share with index `who`, if there is one.
 fn take_at<H: Handout>(handout: &H, shares: &mut Vec<H::Share>, who: usize) -> Option<u32>
     requires { (who < length shares.old.items) × AllAt (H.fits handout.now) shares.old.items }
     ensures shares { (length shares.new.items ≡ length shares.old.items)
@@ -100,7 +101,8 @@ fn take_at<H: Handout>(handout: &H, shares: &mut Vec<H::Share>, who: usize) -> O
     handout.take(&mut shares[who])
 }
 
-/// What the shares take, and what is left then.
+/// Makes the takes of `takes` from a new handout, and returns what each got and which branches are
+/// left.
 fn take_all<H: Handout>(
     alloc: Global,
     takes: &Takes,
@@ -117,6 +119,7 @@ fn take_all<H: Handout>(
     Ok((taken, left))
 }
 
+/// Checks that each of `all` has its expected results with the handout `H`.
 fn take_as_they_say<R: Abort, H: Handout>(
     rt: &R,
     alloc: Global,
@@ -132,13 +135,14 @@ fn take_as_they_say<R: Abort, H: Handout>(
     Ok(())
 }
 
+/// Checks the order in which shares of both kinds of handout take branches in one thread.
 #[test]
 fn shares_take_in_a_known_order(rt: HostRuntime) -> Result<(), Fail> {
     take_as_they_say::<_, Counter>(&rt, rt.alloc(), &OF_A_COUNTER)?;
     take_as_they_say::<_, Stealing>(&rt, rt.alloc(), &OF_THE_DEQUES)
 }
 
-/// What a worker takes, one branch after the other.
+/// Takes branches for `share` until it gets none, at most `branches`, and returns them.
 fn drain<H: Handout>(
     alloc: Global,
     handout: &H,
@@ -157,7 +161,7 @@ fn drain<H: Handout>(
     Ok(taken)
 }
 
-/// What each worker takes, where all of them take at once.
+/// Lets all workers take branches at once, and returns what each of them took.
 fn drain_all<R: Threads + Sync, H: Handout>(
     rt: &R,
     alloc: Global,
@@ -176,7 +180,7 @@ fn drain_all<R: Threads + Sync, H: Handout>(
     )
 }
 
-/// Whether each of a thousand branches is taken once, a hundred times over.
+/// Returns whether each of a thousand branches is taken exactly once, in each of a hundred runs.
 fn each_is_taken_once<R: Threads + Sync, H: Handout>(
     rt: &R,
     alloc: Global,
@@ -203,6 +207,7 @@ fn each_is_taken_once<R: Threads + Sync, H: Handout>(
     Ok(true)
 }
 
+/// Checks that one, two and four threads take each branch exactly once, from both kinds of handout.
 #[test]
 fn threads_take_each_branch_once(rt: HostRuntime) -> Result<(), Fail> {
     for workers in [1, 2, 4] {

@@ -1,37 +1,38 @@
-//! A gate that holds workers, and notes what they reach.
+//! An observer that holds workers, and counts the moments that they reach.
 
 use std::sync::atomic::AtomicU64;
 use std::sync::atomic::Ordering::SeqCst;
 use wf_pool::{Gate, Moment};
 
-/// A worker that is held gives up after so many turns.
+/// The number of times that a held worker looks whether it may go on, before it gives up.
 const TURNS: u32 = 1_000_000_000;
 
 const BRANCHES: usize = 3;
 
-/// Who is held, and until when.
+/// Which workers are held, and until when.
 #[derive(Clone, Copy, PartialEq, Eq)]
 pub enum Rule {
-    // Nobody.
+    // nobody
     Nobody,
-    // The first worker that takes a branch, until another one has settled one after that.
+    // the first worker that takes a branch, until another worker has settled one after that
     FirstTaker,
-    // Whoever takes a branch above the first, until the first is settled.
+    // each worker that takes a branch above branch 0, until branch 0 is settled
     LaterBranches,
-    // Whoever takes a turn at one of the first two branches, until both had one.
+    // each worker at a turn of branch 0 or 1, until both branches had a turn
     FirstTurns,
 }
 
-/// Which workers may not start.
+/// The workers that may not have a thread of their own.
 #[derive(Clone, Copy)]
 pub enum Barred {
     Nobody,
-    // The one of this number.
+    // only the worker with this index
     Worker(u32),
     All,
 }
 
-/// A gate for a problem of three branches.
+/// An observer of a problem with three branches. It holds workers by a rule, and counts their
+/// moments.
 #[derive(Drop)]
 pub struct Hold {
     rule: Rule,
@@ -46,11 +47,12 @@ pub struct Hold {
     given_up: AtomicU64,
 }
 
+/// Creates a counter for each branch.
 fn zeros() -> [AtomicU64; BRANCHES] {
     [AtomicU64::new(0), AtomicU64::new(0), AtomicU64::new(0)]
 }
 
-/// Adds one, where there is such a branch.
+/// Adds one to the counter of `branch`, if there is one.
 fn count(counts: &[AtomicU64; BRANCHES], branch: u32) {
     if let Some(n) = counts.get(branch as usize) {
         n.fetch_add(1, SeqCst);
@@ -58,7 +60,7 @@ fn count(counts: &[AtomicU64; BRANCHES], branch: u32) {
 }
 
 impl Hold {
-    /// A gate by which a rule holds workers, and some may not start.
+    /// Creates an observer that holds workers by `rule`, and lets all start but those of `barred`.
     pub(crate) fn new(rule: Rule, barred: Barred) -> Hold {
         Hold {
             rule,
@@ -74,9 +76,9 @@ impl Hold {
         }
     }
 
-    /// Whether a worker was held until it gave up, as a number; how many workers were to be
-    /// started; how often it was told how many branches there are, before any was taken; how many
-    /// there are, and how many were settled.
+    /// Returns five numbers: 1 if a held worker gave up, and 0 otherwise; how many workers were to
+    /// be started besides the first; how often the number of branches was reported before one was
+    /// taken; that number; and how many branches were settled.
     pub(crate) fn counts(&self) -> [u64; 5] {
         [
             self.given_up.load(SeqCst),
@@ -87,7 +89,7 @@ impl Hold {
         ]
     }
 
-    /// Whether a turn was taken at this branch.
+    /// Returns whether a turn was taken at `branch`.
     fn had_turn(&self, branch: usize) -> bool {
         match self.turns.get(branch) {
             Some(n) => n.load(SeqCst) > 0,
@@ -95,7 +97,7 @@ impl Hold {
         }
     }
 
-    /// Whether a turn was taken at this branch or a later one.
+    /// Returns whether a turn was taken at branch `first` or at a later one.
     pub(crate) fn had_turn_from(&self, first: usize) -> bool {
         for branch in first..BRANCHES {
             if self.had_turn(branch) {
@@ -105,7 +107,7 @@ impl Hold {
         false
     }
 
-    /// Whether a worker that was held when so many branches were settled may go on.
+    /// Returns whether a worker may go on that was held when `settled` branches were settled.
     fn is_over(&self, settled: u64) -> bool {
         match self.rule {
             Rule::Nobody => true,
@@ -115,6 +117,7 @@ impl Hold {
         }
     }
 
+    /// Holds the calling worker until the rule lets it go on, or until it gives up.
     fn hold(&self) {
         let settled = self.settled.load(SeqCst);
         for _ in 0..TURNS {

@@ -1,25 +1,26 @@
-//! Tables of rows, worked out by hand, of each length up to 17, and of many rows.
+//! Tests of the kernel on tables: some worked out by hand, some of each length up to 17, and some
+//! of many rows.
 
 ghost use Rattle.std.specs.Prelude.{◌≡◌, ◌≤◌, length};
 
 use std::alloc::{AllocError, Global};
 use std::test::Fail;
+use wf_base::set::{Mask, from_set64};
 use wf_lane::{Support, TupleTable};
-use wf_set::{Mask, of_part};
 use wf_task::Row;
 
-/// Sets of values below 64, by their first words.
+/// Returns four sets of values below 64, whose words are `words`.
 fn sets_of(words: [u64; 4]) -> [Mask; 4] {
     let [first, second, third, fourth] = words;
     [
-        of_part(first),
-        of_part(second),
-        of_part(third),
-        of_part(fourth),
+        from_set64(first),
+        from_set64(second),
+        from_set64(third),
+        from_set64(fourth),
     ]
 }
 
-/// The first ones of four values, as many as the width.
+/// Returns a row of the first `width` of `values`.
 fn row_of(width: u8, values: [u8; 4]) -> Row
     requires some { 1 ≤ width }
     requires narrow { width ≤ 4 }
@@ -28,8 +29,8 @@ fn row_of(width: u8, values: [u8; 4]) -> Row
     Row::new(&values[..usize::from(width)])
 }
 
-/// What a table of rows supports of some candidates. Each row is the first ones of four values, as
-/// many as the width, and there are 4096 rows at most.
+/// Returns what the kernel supports of `candidates` in a table of the first 4096 of `rows`, each
+/// cut to its first `width` values.
 fn support_of(
     alloc: Global,
     width: u8,
@@ -47,7 +48,7 @@ fn support_of(
     Ok(table.revise(candidates))
 }
 
-/// The values 0 to 7, 63, 64 and 255.
+/// Rows of one place, with the values 0 to 7, 63, 64 and 255.
 static VALUES: [[u8; 4]; 11] = [
     [0, 0, 0, 0],
     [1, 0, 0, 0],
@@ -62,7 +63,7 @@ static VALUES: [[u8; 4]; 11] = [
     [255, 0, 0, 0],
 ];
 
-/// How many of them are below 64.
+/// The number of rows in [`VALUES`] whose value is below 64. They come first.
 const SMALL_VALUES: usize = 9;
 
 const ALL: Mask = [u64::MAX; 4];
@@ -73,9 +74,10 @@ const LAST: Mask = [0x8000_0000_0000_0000, 0, 0, 0];
 
 const ALL_SMALL: Mask = [0x8000_0000_0000_00ff, 0, 0, 0];
 
-/// Those of a table with larger values.
+/// The set of all values in [`VALUES`]. `ALL_SMALL` has only those below 64.
 const ALL_LARGE: Mask = [0x8000_0000_0000_00ff, 1, 0, 0x8000_0000_0000_0000];
 
+/// Checks tables of rows of one place, with small and with large values, and one without rows.
 #[test]
 fn rows_of_one_place(rt: HostRuntime) -> Result<(), Fail> {
     let small = &VALUES[..SMALL_VALUES];
@@ -93,7 +95,7 @@ fn rows_of_one_place(rt: HostRuntime) -> Result<(), Fail> {
     Ok(())
 }
 
-/// The pairs of values 0 to 2 that differ by at most 1.
+/// The pairs of values from 0 to 2 that differ by at most 1.
 static NEAR: [[u8; 4]; 7] = [
     [0, 0, 0, 0],
     [0, 1, 0, 0],
@@ -104,7 +106,7 @@ static NEAR: [[u8; 4]; 7] = [
     [2, 2, 0, 0],
 ];
 
-/// The pairs of a value below one number and one below another.
+/// Returns all pairs of a value below `firsts` and a value below `seconds`.
 fn all_pairs(alloc: Global, firsts: u8, seconds: u8) -> Result<Vec<[u8; 4]>, AllocError> {
     let mut pairs = Vec::new(alloc);
     for first in 0..firsts {
@@ -115,8 +117,9 @@ fn all_pairs(alloc: Global, firsts: u8, seconds: u8) -> Result<Vec<[u8; 4]>, All
     Ok(pairs)
 }
 
-/// Where each pair is a row, the candidates below both numbers are supported where both places have
-/// one: in tables of many rows, of 64, which are a word, and of one more.
+/// Checks tables of pairs. In a table of all pairs of values below two bounds, a candidate below
+/// its bound is supported if the other place has such a candidate too. The tables have many rows,
+/// the 64 rows of a word, and one row more than that.
 #[test]
 fn rows_of_two_places(rt: HostRuntime) -> Result<(), Fail> {
     let many = all_pairs(rt.alloc(), 40, 30)?;
@@ -152,8 +155,8 @@ fn rows_of_two_places(rt: HostRuntime) -> Result<(), Fail> {
     Ok(())
 }
 
-/// The values 63, 5, 0 and 32, but 9 at the place that is other.
-fn values_but(other: usize) -> [u8; 4] {
+/// Returns the values 63, 5, 0 and 32, with 9 in place of the one at `other`.
+fn values_with_9_at(other: usize) -> [u8; 4] {
     let mut values = [63, 5, 0, 32];
     if other < 4 {
         values[other] = 9;
@@ -161,29 +164,30 @@ fn values_but(other: usize) -> [u8; 4] {
     values
 }
 
-/// Rows of which the one at a place has the values 63, 5, 0 and 32. Each other lacks one of them at
-/// a place below the width.
-fn rows_but_one(width: u8, at: usize) -> [[u8; 4]; 17]
+/// Returns 17 rows, of which only the one with index `at` has the values 63, 5, 0 and 32. Each
+/// other row has 9 at a place below `width`.
+fn rows_with_one_match(width: u8, at: usize) -> [[u8; 4]; 17]
     requires { 1 ≤ width }
 {
     let mut rows = [[63, 5, 0, 32]; 17];
     for i in 0..17 {
         if i != at {
-            rows[i] = values_but(i % usize::from(width));
+            rows[i] = values_with_9_at(i % usize::from(width));
         }
     }
     rows
 }
 
-/// The values 63, 5, 0 and 32 as sets.
-const FOUR_WORDS: [u64; 4] = [0x8000_0000_0000_0000, 0x20, 1, 0x1_0000_0000];
+/// The sets of the single values 63, 5, 0 and 32, as words.
+const FOUR_SINGLETONS: [u64; 4] = [0x8000_0000_0000_0000, 0x20, 1, 0x1_0000_0000];
 
-/// What the row that has them supports, if it is there.
-fn support_if(is_there: bool, width: u8) -> Support {
+/// Returns the expected support of a table of `width` columns whose candidates are
+/// [`FOUR_SINGLETONS`]: these candidates with one live row if `is_there`, and otherwise nothing.
+fn expected_support(is_there: bool, width: u8) -> Support {
     let mut words = [0; 4];
     for place in 0..4 {
         if is_there && place < usize::from(width) {
-            words[place] = FOUR_WORDS[place];
+            words[place] = FOUR_SINGLETONS[place];
         }
     }
     Support {
@@ -192,15 +196,17 @@ fn support_if(is_there: bool, width: u8) -> Support {
     }
 }
 
+/// Checks that the only supported row is found at each index, in tables of each width and of each
+/// length up to 17.
 #[test]
 fn one_row_is_found_at_each_place(rt: HostRuntime) -> Result<(), Fail> {
     for width in 1..5 {
         for length in 0..18 {
             for at in 0..length + 1 {
-                let rows = rows_but_one(width, at);
-                let candidates = sets_of(FOUR_WORDS);
+                let rows = rows_with_one_match(width, at);
+                let candidates = sets_of(FOUR_SINGLETONS);
                 let found = support_of(rt.alloc(), width, &rows[..length], candidates)?;
-                assert_eq!(rt; found, support_if(at < length, width));
+                assert_eq!(rt; found, expected_support(at < length, width));
             }
         }
     }

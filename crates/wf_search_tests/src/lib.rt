@@ -1,9 +1,11 @@
-//! Tests of the search and of the workers that share it, through their public calls. Kernels, boxes
-//! and searches have rows worked out by hand. The machine, the board, the handouts and the pool are
-//! called in one thread, in a known order, and in several threads, in whatever order.
+//! Tests of the search, of the workers that share it, and of a whole run of `solve`, through their
+//! public calls. Those of
+//! kernels, boxes and searches compare with values that were worked out by hand. The event machine,
+//! the board, the handouts and the pool are tested in one thread, in a known order, and in several
+//! threads, in any order.
 #![tactic(auto)]
 
-/// The line of a value that is lost.
+/// The line that removes a value of a process in an execution.
 #[cfg(test)]
 macro_rules! lost {
     ($execution:literal, $process:literal, $value:literal) => {
@@ -31,6 +33,8 @@ mod lanes;
 mod marks;
 #[cfg(test)]
 mod pools;
+#[cfg(test)]
+mod runs;
 #[cfg(test)]
 mod searches;
 #[cfg(test)]

@@ -1,8 +1,9 @@
-//! Marks on executions, and sets that fit into words, worked out by hand.
+//! Tests of marks on executions, and of sets that fit into words, worked out by hand.
 
 use std::alloc::AllocError;
-use wf_network::{MarkMask, Marks, in_nibbles, in_word, narrowed, unpacked, unpacked_nibbles};
+use wf_network::{MarkMask, Marks, narrowed, pack_nibbles, pack_word, unpacked, unpacked_nibbles};
 
+/// Checks that marks are taken in ascending order, and that `clear` removes all.
 #[test]
 fn marks_are_taken_in_order_and_cleared(rt: HostRuntime) -> Result<(), AllocError> {
     let mut marks = Marks::new(rt.alloc());
@@ -18,6 +19,7 @@ fn marks_are_taken_in_order_and_cleared(rt: HostRuntime) -> Result<(), AllocErro
     Ok(())
 }
 
+/// Checks that sets of values below 64 are narrowed to words, and other sets aren't.
 #[test]
 fn sets_below_64_are_words(rt: HostRuntime) {
     let low = [[1, 0, 0, 0], [2, 0, 0, 0], [3, 0, 0, 0], [0; 4]];
@@ -26,21 +28,23 @@ fn sets_below_64_are_words(rt: HostRuntime) {
     assert_eq!(rt; narrowed(wide), None);
 }
 
-/// In hexadecimal each digit has the set of one place, the first one last.
+/// Checks that four sets of small values are packed into one word and unpacked again. In
+/// hexadecimal each digit of the smallest form is the set of one place, and the first place is the
+/// last digit.
 #[test]
 fn small_sets_share_a_word(rt: HostRuntime) {
     let low = [8, 2, 15, 0];
     assert_eq!(rt;
-        (in_nibbles(low), in_word(low)),
+        (pack_nibbles(low), pack_word(low)),
         (Some(0xf28), Some(0xf_0002_0008))
     );
     let parts = (unpacked_nibbles(0xf28), unpacked(0xf_0002_0008));
     assert_eq!(rt; parts, ([8, 2, 15, 0], [8, 2, 15, 0]));
     let more = [8, 16, 15, 0];
     assert_eq!(rt;
-        (in_nibbles(more), in_word(more)),
+        (pack_nibbles(more), pack_word(more)),
         (None, Some(0xf_0010_0008))
     );
     let most = [8, 65_536, 15, 0];
-    assert_eq!(rt; in_word(most), None);
+    assert_eq!(rt; pack_word(most), None);
 }

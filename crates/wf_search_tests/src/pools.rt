@@ -1,4 +1,4 @@
-//! Whole problems, by one worker and by several.
+//! Tests of whole problems, searched by one worker and by several.
 
 ghost use Rattle.std.specs.Prelude.{◌<◌, ◌≤◌};
 
@@ -8,16 +8,16 @@ use std::alloc::{AllocError, Global};
 use std::process::Abort;
 use std::test::Fail;
 use std::thread::Threads;
+use wf_base::lines::{Line, Lines};
 use wf_box::Problem;
 use wf_core::Account;
 use wf_examples::{AGREEMENT_3_2, CONSENSUS_2, PATH_2};
 use wf_handout::{Counter, Handout, Stealing};
-use wf_lines::{Line, Lines};
 use wf_pool::{
-    Answer, Gate, Inquiry, KeptLines, MAX_WORKERS, Open, solve, solve_one, solve_within,
+    Answer, Gate, KeptLines, MAX_WORKERS, Open, SearchSpec, solve, solve_one, solve_within,
 };
 
-/// The line of a value that is lost.
+/// The line that removes a value of a process in an execution.
 macro_rules! lost {
     ($execution:literal, $process:literal, $value:literal) => {
         Line::Remove {
@@ -31,7 +31,7 @@ macro_rules! lost {
 /// The least map of `PATH_2` after one round.
 const MAP: &[u8] = &[0, 2, 1, 0];
 
-/// The lines that lead to it.
+/// The lines of the search of `PATH_2` after one round, which lead to [`MAP`].
 const MAP_LINES: &[Line] = &[
     lost!(0, 0, 1),
     lost!(0, 0, 2),
@@ -44,7 +44,8 @@ const MAP_LINES: &[Line] = &[
     Line::Found,
 ];
 
-/// Of its three branches the first one was searched, and the others cut.
+/// The account of a search of `PATH_2` that searched the first of three branches and cut the
+/// others.
 const FIRST_ALONE: Account = Account {
     branches: 3,
     least: 0,
@@ -52,7 +53,7 @@ const FIRST_ALONE: Account = Account {
     cut: 2,
 };
 
-/// The lines that refute `CONSENSUS_2` without a round, whose root has no branches.
+/// The lines that refute `CONSENSUS_2` after no round. Its root has no branches.
 const CONSENSUS_LINES: &[Line] = &[
     lost!(0, 0, 1),
     lost!(1, 1, 0),
@@ -67,7 +68,7 @@ const NO_BRANCHES: Account = Account {
     cut: 0,
 };
 
-/// None of the branches of `AGREEMENT_3_2` after one round has a map.
+/// The account of `AGREEMENT_3_2` after one round, of whose branches none has a map.
 const AGREEMENT_ACCOUNT: Account = Account {
     branches: 64,
     least: 64,
@@ -75,7 +76,7 @@ const AGREEMENT_ACCOUNT: Account = Account {
     cut: 0,
 };
 
-/// The values of a map, and the lines; none of what there isn't.
+/// Returns the values of the map of `answer`, which are empty if there is none, and its lines.
 fn parts_of(alloc: Global, answer: Answer) -> (Vec<u8>, Lines) {
     match answer {
         Answer::Map(values, lines) => (values, lines),
@@ -83,8 +84,8 @@ fn parts_of(alloc: Global, answer: Answer) -> (Vec<u8>, Lines) {
     }
 }
 
-/// A task, rounds and the lines that are kept, and what one worker answers: the values of a map, if
-/// any, and the lines; and what it did.
+/// Tasks, numbers of rounds and which lines are kept, with the answer of one worker: the values of
+/// the map, if there is one, the lines, and the account.
 static ALONE: [(&str, u32, KeptLines, &[u8], &[Line], Account); 5] = [
     (PATH_2, 1, KeptLines::All, MAP, MAP_LINES, FIRST_ALONE),
     (PATH_2, 1, KeptLines::Refuting, MAP, &[], FIRST_ALONE),
@@ -107,7 +108,8 @@ static ALONE: [(&str, u32, KeptLines, &[u8], &[Line], Account); 5] = [
     ),
 ];
 
-/// What one worker answers: the values of a map, if any, and the lines; and what it did.
+/// Searches with one worker, and returns the values of the map, if there is one, the lines, and the
+/// account.
 fn run_alone(
     alloc: Global,
     task: &str,
@@ -120,7 +122,7 @@ fn run_alone(
     Ok((values, lines, account))
 }
 
-/// It stops at the first map.
+/// Checks the answers of one worker, which stops at the first map.
 #[test]
 fn one_worker_alone(rt: HostRuntime) -> Result<(), Fail> {
     for (task, rounds, kept, values, lines, wanted) in ALONE {
@@ -134,11 +136,12 @@ fn one_worker_alone(rt: HostRuntime) -> Result<(), Fail> {
     Ok(())
 }
 
-/// The values of a map, if any, and the lines.
+/// The values of a map, which are empty if there is none, and the lines.
 type Parts<'a> = (&'a [u8], &'a [Line]);
 
-/// A task, rounds, the lines that are kept, a number of turns, and what is answered within them. A
-/// turn ends in a line that takes nothing out: `MAP_LINES` has three, and `CONSENSUS_LINES` one.
+/// Tasks, numbers of rounds, which lines are kept and limits of turns, with the answer within the
+/// limit. A turn ends with a line that removes no value: [`MAP_LINES`] has three of them, and
+/// [`CONSENSUS_LINES`] one.
 static WITHIN: [(&str, u32, KeptLines, u32, Option<Parts<'static>>); 6] = [
     (PATH_2, 1, KeptLines::All, 3, Some((MAP, MAP_LINES))),
     (PATH_2, 1, KeptLines::Neither, 4, Some((MAP, &[]))),
@@ -154,7 +157,8 @@ static WITHIN: [(&str, u32, KeptLines, u32, Option<Parts<'static>>); 6] = [
     (CONSENSUS_2, 0, KeptLines::Neither, 0, None),
 ];
 
-/// What is answered within so many turns, if anything: the values of a map, if any, and the lines.
+/// Searches within `turns` turns, and returns the values of the map, if there is one, and the
+/// lines, or `None` if the search takes more turns.
 fn run_within(
     alloc: Global,
     task: &str,
@@ -169,7 +173,7 @@ fn run_within(
     }
 }
 
-/// It is given up where it takes a turn more.
+/// Checks that a search is given up exactly if it takes more turns than allowed.
 #[test]
 fn a_search_ends_within_its_turns(rt: HostRuntime) -> Result<(), Fail> {
     for (task, rounds, kept, turns, wanted) in WITHIN {
@@ -183,44 +187,46 @@ fn a_search_ends_within_its_turns(rt: HostRuntime) -> Result<(), Fail> {
     Ok(())
 }
 
-/// A run by several workers: the values of a map, if any, the lines, and what the workers did.
+/// Searches with `workers` workers and the observer `gate`, and returns the values of the map, if
+/// there is one, the lines, and the account.
 fn run<R: Threads + Sync, H: Handout, G: Gate>(
     rt: &R,
     alloc: Global,
-    inquiry: Inquiry,
+    spec: SearchSpec,
     workers: u32,
     gate: &G,
 ) -> Result<(Vec<u8>, Lines, Account), AllocError>
     requires { (0 < workers) × (workers ≤ MAX_WORKERS) }
 {
-    let (answer, account) = solve::<R, H, G>(rt, alloc, inquiry, workers, gate)?;
+    let (answer, account) = solve::<R, H, G>(rt, alloc, spec, workers, gate)?;
     let (values, lines) = parts_of(alloc, answer);
     Ok((values, lines, account))
 }
 
+/// Checks that a root without branches is refuted when many workers are requested.
 #[test]
 fn a_root_without_branches(rt: HostRuntime) -> Result<(), Fail> {
     let problem = problem_of(rt.alloc(), CONSENSUS_2, 0)?;
-    let inquiry = Inquiry {
+    let spec = SearchSpec {
         problem: &problem,
         kept: KeptLines::Refuting,
     };
-    let (_, lines, account) = run::<_, Stealing, _>(&rt, rt.alloc(), inquiry, MAX_WORKERS, &Open)?;
+    let (_, lines, account) = run::<_, Stealing, _>(&rt, rt.alloc(), spec, MAX_WORKERS, &Open)?;
     assert_eq!(rt; (lines.as_slice(), account), (CONSENSUS_LINES, NO_BRANCHES));
     Ok(())
 }
 
-/// A run in which the least map of `PATH_2` is found: how many workers there are, what lines are
-/// kept, who is held and which workers may not start; how many branches are searched at least and
-/// at most, and the first branch from which on none has a turn.
+/// A run that finds the least map of `PATH_2`: the number of workers, which lines are kept, who is
+/// held and who may not start; the least and the largest number of branches that may be searched;
+/// and the first branch from which on none may have a turn.
 type Run = (u32, KeptLines, (Rule, Barred), (u32, u32), usize);
 
 /// Nobody is held, and each worker may start.
 const FREE: (Rule, Barred) = (Rule::Nobody, Barred::Nobody);
 
-/// In these runs the map is found.
+/// Runs that find the least map of `PATH_2`.
 static RUNS: [Run; 18] = [
-    // any number of workers finds it, whatever lines are kept
+    // any number of workers finds the map, whatever lines are kept
     (1, KeptLines::All, FREE, (1, 3), 3),
     (1, KeptLines::Refuting, FREE, (1, 3), 3),
     (1, KeptLines::Neither, FREE, (1, 3), 3),
@@ -230,7 +236,7 @@ static RUNS: [Run; 18] = [
     (8, KeptLines::All, FREE, (1, 3), 3),
     (8, KeptLines::Refuting, FREE, (1, 3), 3),
     (8, KeptLines::Neither, FREE, (1, 3), 3),
-    // one worker cuts what lies above the first map
+    // one worker cuts the branches above the first map
     (1, KeptLines::Refuting, FREE, (1, 1), 3),
     // a worker goes on while another one is held at its first branch
     (
@@ -240,7 +246,7 @@ static RUNS: [Run; 18] = [
         (1, 3),
         3,
     ),
-    // branches are cut whose workers see a lower one posted before their first turn
+    // branches are cut if their workers see a lower one posted before their first turn
     (
         3,
         KeptLines::All,
@@ -249,7 +255,7 @@ static RUNS: [Run; 18] = [
         1,
     ),
     // both workers are at a turn before either goes on, so each searches a branch, and the third
-    // is cut
+    // branch is cut
     (
         2,
         KeptLines::All,
@@ -290,8 +296,8 @@ static RUNS: [Run; 18] = [
     (3, KeptLines::All, (Rule::Nobody, Barred::All), (1, 3), 3),
 ];
 
-/// Whether it is an account of three branches, of which the first has a map, and so many were
-/// searched, at least and at most.
+/// Returns whether `account` is that of three branches of which the first has a map, with a number
+/// of searched branches between both numbers of `searched`.
 fn is_of_path(account: Account, searched: (u32, u32)) -> bool {
     let (least, most) = searched;
     let sum = account.searched.saturating_add(account.cut);
@@ -300,8 +306,8 @@ fn is_of_path(account: Account, searched: (u32, u32)) -> bool {
         && account.searched <= most
 }
 
-/// The answer is the map in each of these runs, and nobody is held to the end. No more workers are
-/// used than there are branches, and the main thread is one of them.
+/// Checks that each run of [`RUNS`] finds the map with the handout `H`, and that no held worker
+/// gave up. No more workers are used than there are branches, and the main thread is one of them.
 fn finds_the_map<R: Threads + Sync + Abort, H: Handout>(
     rt: &R,
     alloc: Global,
@@ -311,8 +317,8 @@ fn finds_the_map<R: Threads + Sync + Abort, H: Handout>(
         let workers = (*workers).clamp(1, MAX_WORKERS);
         let gate = Hold::new(*rule, *barred);
         let kept = *kept;
-        let inquiry = Inquiry { problem, kept };
-        let (values, lines, account) = run::<R, H, Hold>(rt, alloc, inquiry, workers, &gate)?;
+        let spec = SearchSpec { problem, kept };
+        let (values, lines, account) = run::<R, H, Hold>(rt, alloc, spec, workers, &gate)?;
         let wanted = match kept {
             KeptLines::All => MAP_LINES,
             KeptLines::Refuting | KeptLines::Neither => &[],
@@ -328,6 +334,7 @@ fn finds_the_map<R: Threads + Sync + Abort, H: Handout>(
     Ok(())
 }
 
+/// Checks that both kinds of handout find the map in each run of [`RUNS`].
 #[test]
 fn the_map_is_found_by_workers_that_are_held_or_may_not_start(rt: HostRuntime) -> Result<(), Fail> {
     let problem = problem_of(rt.alloc(), PATH_2, 1)?;
@@ -335,8 +342,8 @@ fn the_map_is_found_by_workers_that_are_held_or_may_not_start(rt: HostRuntime) -
     finds_the_map::<_, Stealing>(&rt, rt.alloc(), &problem)
 }
 
-/// Finds the least map and its lines a thousand times, by three workers and by as many as may be
-/// asked for.
+/// Checks that the least map and its lines are found in each of a thousand runs with the handout
+/// `H`, most of them with three workers, and some with the largest number of workers.
 fn finds_the_least_map<R: Threads + Sync + Abort, H: Handout>(
     rt: &R,
     alloc: Global,
@@ -344,11 +351,11 @@ fn finds_the_least_map<R: Threads + Sync + Abort, H: Handout>(
     let problem = problem_of(alloc, PATH_2, 1)?;
     for turn in 0..1000u32 {
         let workers = if turn % 100 == 0 { MAX_WORKERS } else { 3 };
-        let inquiry = Inquiry {
+        let spec = SearchSpec {
             problem: &problem,
             kept: KeptLines::All,
         };
-        let (values, lines, account) = run::<R, H, Open>(rt, alloc, inquiry, workers, &Open)?;
+        let (values, lines, account) = run::<R, H, Open>(rt, alloc, spec, workers, &Open)?;
         assert_eq!(rt;
             (
                 values.as_slice(),
@@ -361,6 +368,7 @@ fn finds_the_least_map<R: Threads + Sync + Abort, H: Handout>(
     Ok(())
 }
 
+/// Checks that both kinds of handout find the least map, whatever order the threads run in.
 #[test]
 fn the_least_map_is_found_in_any_schedule(rt: HostRuntime) -> Result<(), Fail> {
     finds_the_least_map::<_, Counter>(&rt, rt.alloc())?;

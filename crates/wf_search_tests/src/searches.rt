@@ -1,4 +1,4 @@
-//! The search and the split, with rows worked out by hand.
+//! Tests of the search and of the split, with values that were worked out by hand.
 
 ghost use Rattle.std.specs.Prelude.{◌≡◌, ◌<◌, ◌≤◌, length, IfOk};
 ghost use Rattle.wf_model.specs.Outline.{boxes_left_out, outline};
@@ -7,15 +7,16 @@ ghost use Rattle.wf_box.specs.Boxes.{ServeFor};
 use crate::tasks::problem_of;
 use std::alloc::{AllocError, Global};
 use std::test::Fail;
-use wf_box::{Box0, KernelCache, Problem};
+use wf_base::lines::{Line, Lines};
+use wf_box::{Box0, BoxCache, Problem};
 use wf_examples::{
     CONSENSUS_2, ONE_PROCESS, ONE_WITHOUT_OUTPUT, ONE_WITHOUT_TUPLE, PATH_2, PATH_3, RENAMING_2_2,
     RENAMING_2_3,
 };
-use wf_lines::{Line, Lines};
 use wf_search::{Cover, Found, Never, Stop, search, search_with, split};
 
-/// It counts its questions as far as a number goes, and answers yes to those past so many.
+/// A stopping rule: it counts how often the search asks whether to stop, up to the largest `u32`,
+/// and answers yes after `most` times.
 #[derive(Drop)]
 struct Limit {
     asked: u32,
@@ -25,7 +26,7 @@ struct Limit {
 impl Stop for Limit {
     ghost use Rattle.std.proofs.Common.{◌+◌, ◌-◌, ◌^◌, arith};
 
-    // the count is that of the questions where it is not the greatest number
+    // the count is exact unless it is the largest number
     ghost asked = { λ n s t.
         (s.asked ≤ t.asked) × (t.asked < 2 ^ 32 - 1 → t.asked ≡ s.asked + n) };
 
@@ -48,7 +49,7 @@ const EMPTY_0: Line = Line::Empty { point: 0 };
 
 const EMPTY_1: Line = Line::Empty { point: 1 };
 
-/// The lines of two names for two processes after one round.
+/// The lines of renaming of two processes to two names after one round.
 const LINES_OF_TWO_NAMES: &[Line] = &[
     Line::Branch { point: 0 },
     lost!(3, 1, 0),
@@ -74,8 +75,9 @@ const LINES_OF_A_PATH: &[Line] = &[
     Line::Found,
 ];
 
-/// A search of the root of a task's problem, which is stopped after so many turns, and what it
-/// finds: the values of a map, if any, and the lines.
+/// A search of the root of a task's problem that is stopped after `most` turns, and its expected
+/// result: how often it asks whether to stop (`asked`), whether it is stopped, the values of the
+/// decision map if there is one, and the lines.
 struct Case {
     task: &'static str,
     rounds: u32,
@@ -86,9 +88,10 @@ struct Case {
     lines: &'static [Line],
 }
 
-/// The lines of a search end as many turns as it asks questions. The two names take three: the
-/// root's and those of its two branches. Of three names without a round, one point stands twice in
-/// the execution of both.
+/// Searches with their expected results. A search asks once for each turn whether to stop. The
+/// search of renaming with two names takes three turns: one for the root and one for each of its
+/// two branches. In renaming with three names and no round, one point occurs twice in the execution
+/// of both processes.
 static CASES: [Case; 12] = [
     Case {
         task: PATH_3,
@@ -224,7 +227,7 @@ static CASES: [Case; 12] = [
     },
 ];
 
-/// The values of a map and the lines; none of what there isn't.
+/// Returns the values of the map that was found and the lines; what doesn't exist is empty.
 fn parts_of(alloc: Global, found: Found) -> (Vec<u8>, Lines) {
     match found {
         Found::Map(values, lines) => (values, lines),
@@ -233,7 +236,7 @@ fn parts_of(alloc: Global, found: Found) -> (Vec<u8>, Lines) {
     }
 }
 
-/// What a search finds, how many questions it asks, and whether it is stopped.
+/// Runs the search of `case`, and returns what it finds and how many questions it asked.
 fn search_case(alloc: Global, case: &Case) -> Result<(Found, u32), Fail> {
     let problem = problem_of(alloc, case.task, case.rounds)?;
     let root = Box0::root(alloc, &problem)?;
@@ -245,6 +248,7 @@ fn search_case(alloc: Global, case: &Case) -> Result<(Found, u32), Fail> {
     Ok((found, limit.asked))
 }
 
+/// Checks that each search of [`CASES`] has its expected result.
 #[test]
 fn roots_are_searched(rt: HostRuntime) -> Result<(), Fail> {
     for case in &CASES {
@@ -259,11 +263,12 @@ fn roots_are_searched(rt: HostRuntime) -> Result<(), Fail> {
     Ok(())
 }
 
-/// What a search of the root of a problem finds by the answers of an earlier one.
+/// Searches the root of `problem` with the cached results of the kernel in `answers`, and returns
+/// the values of the map, if there is one, and the lines.
 fn search_by(
     alloc: Global,
     problem: &Problem,
-    answers: &mut KernelCache,
+    answers: &mut BoxCache,
 ) -> Result<(Vec<u8>, Lines), AllocError>
     requires { ServeFor problem.now answers.old }
     ensures { ServeFor problem.now answers.new }
@@ -273,20 +278,21 @@ fn search_by(
     Ok(parts_of(alloc, found))
 }
 
-/// A task, rounds, and the least map after these, if there is any.
-static LEAST_MAPS: [(&str, u32, &[u8]); 4] = [
+/// Tasks and numbers of rounds, with the least map, which is empty if there is none.
+static MIN_MAPS: [(&str, u32, &[u8]); 4] = [
     (RENAMING_2_2, 1, &[]),
     (PATH_2, 1, &[0, 2, 1, 0]),
     (PATH_3, 1, &[0, 3, 2, 1]),
     (RENAMING_2_3, 1, &[0, 1, 2]),
 ];
 
-/// The second search goes by the answers that the first one left, and finds the same.
+/// Checks that a second search, which uses the results of the kernel that the first one cached,
+/// finds the same.
 #[test]
 fn answers_of_an_earlier_search(rt: HostRuntime) -> Result<(), Fail> {
-    for (text, rounds, wanted) in LEAST_MAPS {
+    for (text, rounds, wanted) in MIN_MAPS {
         let problem = problem_of(rt.alloc(), text, rounds)?;
-        let mut answers = KernelCache::new(rt.alloc());
+        let mut answers = BoxCache::new(rt.alloc());
         let (values, lines) = search_by(rt.alloc(), &problem, &mut answers)?;
         assert_eq!(rt; values.as_slice(), wanted);
         let again = search_by(rt.alloc(), &problem, &mut answers)?;
@@ -295,7 +301,7 @@ fn answers_of_an_earlier_search(rt: HostRuntime) -> Result<(), Fail> {
     Ok(())
 }
 
-/// What a search of a branch finds.
+/// Searches branch `number` of `cover`.
 fn search_branch(
     alloc: Global,
     problem: &Problem,
@@ -309,7 +315,7 @@ fn search_branch(
     search(alloc, problem, cover.branch(alloc, number)?, &mut Never)
 }
 
-/// The branches of the root of a task's problem after one round.
+/// Returns the problem of the task of `text` after one round, and the branches of its root.
 fn branches_of(alloc: Global, text: &str) -> Result<(Problem, Cover), Fail>
     ensures { IfOk result (λ r. r.1 ≡ outline r.0) }
 {
@@ -318,7 +324,8 @@ fn branches_of(alloc: Global, text: &str) -> Result<(Problem, Cover), Fail>
     Ok((problem, cover))
 }
 
-/// The values of the maps of the branches, one after the other.
+/// Checks the maps of the branches of the path of length 2. Their values are compared one map after
+/// the other.
 #[test]
 fn the_branches_of_a_path(rt: HostRuntime) -> Result<(), Fail> {
     let (problem, cover) = branches_of(rt.alloc(), PATH_2)?;
@@ -333,7 +340,7 @@ fn the_branches_of_a_path(rt: HostRuntime) -> Result<(), Fail> {
     Ok(())
 }
 
-/// Lists of one line each.
+/// Creates a list of one line for each of `lines`.
 fn lists_of(alloc: Global, lines: &[Line]) -> Result<Vec<Lines>, AllocError> {
     let mut lists = Vec::new(alloc);
     for line in lines {
@@ -342,8 +349,9 @@ fn lists_of(alloc: Global, lines: &[Line]) -> Result<Vec<Lines>, AllocError> {
     Ok(lists)
 }
 
-/// The lines of the root with a list for each of the first branches, up to the last list; all lines
-/// where there are no branches and no lists. None where there are more lists than branches.
+/// Returns the lines of the root, in which the first branches are filled with `lists`, up to the
+/// end of the last list. Returns all lines of the root if there are neither branches nor lists, and
+/// no line if there are lists but fewer branches, or branches but no lists.
 fn fill(alloc: Global, cover: &Cover, lists: Vec<Lines>) -> Result<Lines, AllocError> {
     if lists.is_empty() && cover.branches() == 0 {
         return cover.fill(alloc, lists);
@@ -354,7 +362,8 @@ fn fill(alloc: Global, cover: &Cover, lists: Vec<Lines>) -> Result<Lines, AllocE
     cover.fill_least(alloc, lists)
 }
 
-/// What the lists of a task's first branches are, and the lines of the root from one of them on.
+/// Tasks, the single lines of the lists of their first branches, and the lines of the root from an
+/// index on.
 static FILLED: [(&str, &[Line], usize, &[Line]); 3] = [
     (RENAMING_2_2, &[], 0, LINES_OF_TWO_NAMES),
     (PATH_2, &[Line::Found], 0, LINES_OF_A_PATH),
@@ -366,6 +375,7 @@ static FILLED: [(&str, &[Line], usize, &[Line]); 3] = [
     ),
 ];
 
+/// Checks that the lines of a root are filled with the lists of its branches.
 #[test]
 fn a_root_is_filled(rt: HostRuntime) -> Result<(), Fail> {
     for (text, lines, from, wanted) in FILLED {

@@ -1,21 +1,23 @@
-//! The kernels of boxes, worked out by hand, and at each place of boxes of each length up to 17.
+//! Tests of the kernels that work on sets, some worked out by hand, and some at each index of lists
+//! of each length up to 17.
 
 ghost use Rattle.std.specs.Prelude.{◌≤◌};
 
+use wf_base::set::Mask;
 use wf_lane::{count, first_empty, first_open, meet};
-use wf_set::Mask;
 
 static OPEN_AT_2: [Mask; 4] = [[1, 0, 0, 0], [2, 0, 0, 0], [6, 0, 0, 0], [3, 0, 0, 0]];
 
 static OPEN_AT_1: [Mask; 2] = [[1, 0, 0, 0], [0, 0, 1, 1]];
 
-/// No set has two values, and the first one has none.
+/// Sets with at most one value each. The first one is empty.
 static SINGLE: [Mask; 4] = [[0; 4], [0, 0, 0, 1 << 63], [0, 4, 0, 0], [1, 0, 0, 0]];
 
 static EMPTY_AT_1: [Mask; 3] = [[1, 0, 0, 0], [0; 4], [0; 4]];
 
 static THREE_VALUES: [Mask; 3] = [[3, 0, 0, 0], [4, 0, 0, 0], [0; 4]];
 
+/// Checks the first open set, the first empty set, the count and the intersection of lists of sets.
 #[test]
 fn sets_are_met_and_counted(rt: HostRuntime) {
     let cases = [
@@ -41,7 +43,7 @@ fn sets_are_met_and_counted(rt: HostRuntime) {
     assert_eq!(rt; (counts, sets), ([3, 3, 0, 4352], met));
 }
 
-/// The one set up to the place, and the other from there on.
+/// Returns 17 sets: `before` at indices below `place`, and `from` at the others.
 fn sets_from(place: usize, before: Mask, from: Mask) -> [Mask; 17] {
     let mut sets = [before; 17];
     for i in place..17 {
@@ -50,9 +52,10 @@ fn sets_from(place: usize, before: Mask, from: Mask) -> [Mask; 17] {
     sets
 }
 
-/// The sets up to a length: the first open one and the first empty one, where the sets from a place
-/// on are the first ones that are so, and how many values they have where there are two before the
-/// place and three from there on.
+/// Applies the three kernels to lists of `length` sets that change at index `place`. Returns the
+/// result of `first_open` for sets that are open from `place` on, that of `first_empty` for sets
+/// that are empty from there on, and the number of values of sets that have two values before
+/// `place` and three from there on.
 fn answers_at(length: usize, place: usize) -> (Option<usize>, Option<usize>, u64)
     requires { length ≤ 17 }
 {
@@ -66,7 +69,8 @@ fn answers_at(length: usize, place: usize) -> (Option<usize>, Option<usize>, u64
     )
 }
 
-/// 7 met with 3 before the place and with 5 from there on; the sets past the length stay.
+/// Returns 17 sets that were all equal and of which the first `length` were then intersected with
+/// other sets: one set at the indices below `place`, and another at those from `place` on.
 fn met_at(length: usize, place: usize) -> [Mask; 17]
     requires { length ≤ 17 }
 {
@@ -76,7 +80,7 @@ fn met_at(length: usize, place: usize) -> [Mask; 17]
     sets
 }
 
-/// What is left then.
+/// Returns the sets that [`met_at`] has to return.
 fn left_at(length: usize, place: usize) -> [Mask; 17] {
     let mut left = sets_from(place, [3, 0, 0, 5], [5, 0, 0, 3]);
     for i in length..17 {
@@ -85,6 +89,7 @@ fn left_at(length: usize, place: usize) -> [Mask; 17] {
     left
 }
 
+/// Checks the kernels for each index of lists of each length up to 17.
 #[test]
 fn sets_at_each_place(rt: HostRuntime) {
     for length in 0..18 {

@@ -1,4 +1,4 @@
-//! Complexes: simplices with all their faces.
+//! Complexes: sets of simplices that contain all faces of their simplices.
 
 ghost use Rattle.std.specs.Prelude.{◌≡◌, ◌<◌, ◌≤◌, ◌↔◌, IfOk, IfSome, IsTrue, IsNone, Contains, length, slice_get, Some};
 ghost use Rattle.wf_model.specs.Limits.{most_facets};
@@ -10,9 +10,10 @@ use crate::simplex::Simplex;
 use std::alloc::{AllocError, Global};
 use std::marker::Model;
 
-/// Simplices with all their faces, in order, each once.
+/// A simplicial complex: simplices with all their faces, in ascending order, each once.
 ///
-/// A clause sees it as the list of its simplices.
+/// Contracts see it as the list of its simplices. Their positions in this list, from 0, are their
+/// indices.
 #[derive(Drop)]
 pub struct Complex {
     simplices: Vec<Simplex>,
@@ -30,10 +31,16 @@ impl Model for Complex {
 }
 
 impl Complex {
-    /// The faces of these simplices. It takes n log n steps, and memory for eight bytes a face of
-    /// each facet, at most 15 of them a facet, in a vector that grows by doubling. A face of two
-    /// facets is kept twice until all are sorted, but not where it was kept lately, which a table
-    /// of 16 bytes a facet knows, of 64 KiB at most. What is left over is then given back.
+    /// Creates the complex of `facets` and all their faces.
+    ///
+    /// The faces are sorted, in O(n log n) steps. They take eight bytes each, and a facet has at
+    /// most 15, in a vector that grows by doubling and is shrunk at the end. Until then, a face
+    /// that several facets share may be stored more than once. A table of recently added faces
+    /// avoids some of these copies; it takes about 16 bytes a facet, and at most 64 KiB.
+    ///
+    /// # Errors
+    ///
+    /// Returns `AllocError` if memory runs out.
     pub fn from_facets(alloc: Global, facets: &[Simplex]) -> Result<Complex, AllocError>
         requires { length facets.now ≤ most_facets }
         ensures { IfOk result (λ c. c ≡ complex_of facets.now) }
@@ -52,14 +59,14 @@ impl Complex {
         Ok(Complex { simplices })
     }
 
-    /// Whether the simplex is one of the complex.
+    /// Returns `true` if `simplex` belongs to the complex.
     pub fn contains(&self, simplex: &Simplex) -> bool
         ensures { IsTrue result ↔ Contains self.now simplex.now }
     {
         self.index(simplex).is_some()
     }
 
-    /// The simplices, in order.
+    /// Returns the simplices in ascending order.
     pub fn simplices(&self) -> &[Simplex]
         ensures simplices { result.now ≡ self.now }
         ensures complex { IsComplex self.now }
@@ -67,7 +74,8 @@ impl Complex {
         &self.simplices
     }
 
-    /// The place of a simplex, if it is one of the complex; by binary search.
+    /// Returns the index of `simplex`, found by binary search, or `None` if it does not belong to
+    /// the complex.
     pub fn index(&self, simplex: &Simplex) -> Option<u32>
         ensures place { IfSome result (λ i. slice_get self.now i ≡ Some simplex.now) }
         ensures absent { IsNone result → Contains self.now simplex.now → ⊥ }

@@ -1,4 +1,5 @@
-//! Simplices that are added to others, but for those that were added lately.
+//! A table of recently added simplices, with which some of the repeated faces are left out of a
+//! list.
 
 ghost use Rattle.std.specs.Prelude.{◌<◌, [], ◌∷◌, List, All, Contains, IsTrue, IfOk, OnOk, length};
 ghost use Rattle.wf_model.specs.Simplex.{Simplex};
@@ -8,15 +9,16 @@ use crate::simplex::Simplex;
 use std::alloc::{AllocError, Global};
 use std::marker::Model;
 
-/// The fewest simplices that were added lately and are known.
-const LEAST_RECENT: usize = 16;
+/// The least number of slots in the table.
+const MIN_RECENT: usize = 16;
 
-/// The most simplices that were added lately and are known.
-const MOST_RECENT: usize = 4096;
+/// The largest number of slots in the table.
+const MAX_RECENT: usize = 4096;
 
-/// Simplices that were added lately, each at its place until another one takes it.
+/// A table of simplices that were added to a list lately. Each slot holds the last simplex added
+/// there.
 ///
-/// A clause sees what stands at each place.
+/// Contracts see the slots.
 #[derive(Drop)]
 pub(crate) struct Recent {
     places: Vec<Option<Simplex>>,
@@ -33,17 +35,19 @@ impl Model for Recent {
 }
 
 impl Recent {
-    /// None yet, with as many places as there are facets whose faces are added: a power of two.
+    /// Creates an empty table for the faces of `facets` facets. It has about one slot for each
+    /// facet: a power of two from 16 to 4,096.
     pub(crate) fn new(alloc: Global, facets: usize) -> Result<Recent, AllocError>
         ensures { IfOk result (All (IsAmong [])) }
     {
-        let count = facets.clamp(LEAST_RECENT, MOST_RECENT).next_power_of_two();
+        let count = facets.clamp(MIN_RECENT, MAX_RECENT).next_power_of_two();
         let mut places = Vec::new(alloc);
         places.resize(count, None)?;
         Ok(Recent { places })
     }
 
-    /// Whether the simplex was added lately.
+    /// Returns `true` if the table holds `simplex`, so that it was added before. `false` says
+    /// nothing: the entry may have been overwritten.
     fn has(&self, simplex: Simplex) -> bool
         ensures { IsTrue result
             → (ss : List Simplex) → All (IsAmong ss) self.now → Contains ss simplex }
@@ -54,7 +58,7 @@ impl Recent {
         }
     }
 
-    /// Puts the simplex at its place.
+    /// Enters `simplex` into its slot, in place of the simplex that was there.
     fn put(&mut self, simplex: Simplex)
         ensures { (ss : List Simplex) → Contains ss simplex → All (IsAmong ss) self.old
             → All (IsAmong ss) self.new }
@@ -64,7 +68,8 @@ impl Recent {
     }
 }
 
-/// Adds these simplices, but for those that were added lately.
+/// Appends to `simplices` each simplex of `more` that is not in the table `recent`, and enters it
+/// there.
 pub(crate) fn add_each(
     simplices: &mut Vec<Simplex>,
     recent: &mut Recent,
@@ -80,7 +85,7 @@ pub(crate) fn add_each(
     Ok(())
 }
 
-/// Adds a simplex, if it was not added lately.
+/// Appends `simplex` to `simplices`, unless it is in the table `recent`, and enters it there.
 fn add(
     simplices: &mut Vec<Simplex>,
     recent: &mut Recent,

@@ -1,4 +1,4 @@
-//! Simplices: vertices of different processes.
+//! Simplices: vertices of distinct processes.
 
 ghost use Rattle.std.specs.Prelude.{◌≡◌, ◌+◌, ℕ, ◌<◌, ◌≤◌, ◌++◌, [], ◌∷◌, All, drop, length, None, Some, MatchResult, OnOk, slice_index, vec_len, vec_capacity};
 ghost use Rattle.wf_model.specs.Simplex.{processes_of, is_face, simplex_cmp};
@@ -13,16 +13,16 @@ use std::cmp::Ordering;
 use std::fmt;
 use std::marker::Model;
 
-/// How many faces a simplex of four processes has.
-const MOST_FACES: usize = 15;
+/// The number of faces of a simplex of four processes, itself included.
+const MAX_FACES: usize = 15;
 
-/// What keys are mixed by: the high bits of a product tell all of a key apart.
+/// The multiplier that spreads keys over the slots of a table: 2^64 divided by the golden ratio.
 const MIX: u64 = 0x9e37_79b9_7f4a_7c15;
 
-/// Why a list of pairs is no simplex.
+/// The reason why a list of pairs is not a simplex.
 #[derive(Clone, Copy, Debug, PartialEq, Eq)]
 pub enum SimplexFault {
-    /// There is no pair.
+    /// The list is empty.
     Empty,
     /// The processes do not strictly ascend, or one is above 3.
     Colour,
@@ -43,14 +43,14 @@ impl fmt::Display for SimplexFault {
     }
 }
 
-/// A simplex: some of the processes 0 to 3, at least one, each with a value of at most 255.
+/// A simplex: at least one of the processes 0 to 3, each with a value from 0 to 255.
 ///
-/// A clause sees it as the list of its vertices, the pairs of a process and its value, by ascending
-/// process. Simplices are ordered by size, and then as these lists. Each is kept as a number of
-/// eight bytes, in the same order.
+/// Contracts see it as the list of its vertices: pairs of a process and its value, by ascending
+/// process. Simplices are ordered by size first, and then as these lists. A simplex is kept as an
+/// integer of eight bytes in the same order.
 #[derive(Clone, Copy, Debug)]
 pub struct Simplex {
-    // the size, and then a digit for each process
+    // the size, and then one digit for each process: see the module `keys`
     key: u64,
 }
 
@@ -71,8 +71,12 @@ impl Model for Simplex {
 }
 
 impl Simplex {
-    /// The simplex of these pairs of a process and its value, or the first
-    /// reason why they are none.
+    /// Creates the simplex of `pairs`, each a process and its value.
+    ///
+    /// # Errors
+    ///
+    /// Returns `Empty` if there is no pair, and `Colour` if the processes do not strictly ascend or
+    /// one is above 3.
     pub fn read(pairs: &[(u8, u8)]) -> Result<Simplex, SimplexFault>
         ensures { MatchResult result
             (λ s. (read_fault pairs.now ≡ None) × (s ≡ pairs.now))
@@ -93,7 +97,8 @@ impl Simplex {
         Ok(Simplex { key })
     }
 
-    /// The simplex of these pairs of a process and its value, which are those of one.
+    /// Creates the simplex of `pairs`, each a process and its value. They must be known to form a
+    /// simplex: at least one pair, strictly ascending processes up to 3, values up to 255.
     pub fn of_pairs(pairs: &[(u64, u64)]) -> Simplex
         requires { IsTaskSimplex pairs.now }
         ensures { result ≡ pairs.now }
@@ -105,7 +110,7 @@ impl Simplex {
         Simplex { key }
     }
 
-    /// How many processes take part.
+    /// Returns the number of processes that take part, from 1 to 4.
     pub fn colours(&self) -> u8
         ensures count { result ≡ length self.now }
         ensures some { 1 ≤ result }
@@ -115,7 +120,8 @@ impl Simplex {
         (self.key / ONE_VERTEX) as u8
     }
 
-    /// The process at a place, the processes ascending.
+    /// Returns the process at `place`, from 0, among the participating processes in ascending
+    /// order.
     pub fn colour(&self, place: u8) -> u8
         requires { place < length self.now }
         ensures { result ≡ slice_index (processes_of self.now) place }
@@ -132,7 +138,8 @@ impl Simplex {
         unreachable!()
     }
 
-    /// The place of a process, the processes ascending, if it takes part.
+    /// Returns the place of `process`, from 0, among the participating processes in ascending
+    /// order; or `None` if it does not take part.
     pub fn place(&self, process: u8) -> Option<u8>
         ensures { result ≡ place_in 0 process (processes_of self.now) }
     {
@@ -144,7 +151,7 @@ impl Simplex {
         None
     }
 
-    /// The value of a process, if it takes part.
+    /// Returns the value of `process`, or `None` if it does not take part.
     pub fn value(&self, process: u8) -> Option<u8>
         ensures { result ≡ value_at self.now process }
     {
@@ -155,7 +162,8 @@ impl Simplex {
         }
     }
 
-    /// Whether each vertex is also one of the other simplex.
+    /// Returns `true` if the simplex is a face of `other`: if each of its vertices is one of
+    /// `other`.
     pub fn is_face(&self, other: &Simplex) -> bool
         ensures { result ≡ is_face self.now other.now }
     {
@@ -165,15 +173,15 @@ impl Simplex {
             & is_within(digit(self.key, 3), digit(other.key, 3))
     }
 
-    /// Adds each face.
+    /// Appends all faces of the simplex to `faces`, itself included. They are not sorted.
     pub(crate) fn add_faces(&self, faces: &mut Vec<Simplex>) -> Result<(), AllocError>
         ensures added { OnOk result (faces.new.items
             ≡ faces.old.items ++ faces_in_turn self.now) }
         ensures simplex { IsTaskSimplex self.now }
     {
-        // for the proof alone, which reads of the key that it is that of a simplex
+        // needed by the proof only: it makes known that the key is that of a simplex
         let _ = &self.key;
-        faces.reserve(MOST_FACES)?;
+        faces.reserve(MAX_FACES)?;
         let start = faces.len();
         for process in 0..4 {
             if let Some(value) = self.value(process) {
@@ -183,7 +191,7 @@ impl Simplex {
         Ok(())
     }
 
-    /// Where among so many places, a power of two, a table looks for the simplex.
+    /// Returns the slot of the simplex in a hash table of `places` slots, a power of two.
     pub(crate) fn slot(&self, places: usize) -> usize
         requires { 0 < places }
         ensures { result < places }
@@ -191,8 +199,8 @@ impl Simplex {
         (self.key.wrapping_mul(MIX) >> 32) as usize & (places - 1)
     }
 
-    /// One vertex alone.
-    fn alone(process: u8, value: u8) -> Simplex
+    /// Returns the simplex whose only vertex is `process` with `value`.
+    fn vertex(process: u8, value: u8) -> Simplex
         requires { IsTaskSimplex ((process, value) ∷ []) }
         ensures { result ≡ (process, value) ∷ [] }
     {
@@ -201,8 +209,9 @@ impl Simplex {
         }
     }
 
-    /// The simplex and one more vertex, of a later process.
-    fn joined(&self, process: u8, value: u8) -> Simplex
+    /// Returns the simplex with one more vertex, `process` with `value`. `process` must come after
+    /// all its processes.
+    fn with_vertex(&self, process: u8, value: u8) -> Simplex
         requires { IsTaskSimplex (self.now ++ ((process, value) ∷ [])) }
         ensures { result ≡ self.now ++ ((process, value) ∷ []) }
     {
@@ -212,7 +221,8 @@ impl Simplex {
     }
 }
 
-/// Adds a vertex alone, and with it each simplex from this place on.
+/// Appends to `faces` the vertex of `process` and `value`, and then each simplex from index `start`
+/// on with this vertex joined to it. `faces` must have the capacity for all of them.
 fn add_joined(faces: &mut Vec<Simplex>, start: usize, process: u8, value: u8)
     requires place { start ≤ vec_len faces.old }
     requires room { vec_len faces.old + vec_len faces.old + 1 ≤ start + vec_capacity faces.old }
@@ -225,9 +235,9 @@ fn add_joined(faces: &mut Vec<Simplex>, start: usize, process: u8, value: u8)
     ensures capacity { vec_capacity faces.new ≡ vec_capacity faces.old }
 {
     let end = faces.len();
-    faces.push_reserved(Simplex::alone(process, value));
+    faces.push_reserved(Simplex::vertex(process, value));
     for place in start..end {
-        let face = faces[place].joined(process, value);
+        let face = faces[place].with_vertex(process, value);
         faces.push_reserved(face);
     }
 }

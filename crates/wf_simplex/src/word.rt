@@ -1,4 +1,4 @@
-//! Words: ordered partitions of the participants.
+//! Words: the ordered partitions of the participants of one round.
 
 ghost use Rattle.std.specs.Prelude.{◌≡◌, ℕ, ◌+◌, ◌<◌, ◌≤◌, ◌==◌, Contains, IsTrue, false, nat_le, length, count_by, slice_get, slice_index, Some};
 ghost use Rattle.std.specs.Bool.{OnFalse};
@@ -7,8 +7,8 @@ ghost use Rattle.wf_simplex.specs.WordTable.{start_of, end_of};
 
 use std::marker::Model;
 
-/// The words of one participant, then of two, of three and of four, each time
-/// in order; filled up by zeros.
+/// The words of one participant, then those of two, of three and of four, in ascending order for
+/// each size. Shorter words are padded with zeros.
 static WORDS: [[u8; 4]; 92] = [
     [0, 0, 0, 0],
     [0, 0, 0, 0],
@@ -104,15 +104,15 @@ static WORDS: [[u8; 4]; 92] = [
     [3, 2, 1, 0],
 ];
 
-/// One immediate snapshot of one to four participants, as an ordered partition of them.
+/// One immediate snapshot of one to four participants, as an ordered partition of them into blocks.
 ///
-/// A clause sees it as the list of the numbers of their blocks, by ascending process. With a block
-/// each smaller number is one too. A participant sees those whose block is its own or an earlier
-/// one. The words of a size are ordered as these lists.
+/// Contracts see it as the list of the participants' block numbers, by ascending process. Blocks
+/// are numbered from 0 without gaps. A participant sees the participants of its own block and of
+/// all earlier ones. The words of one size are ordered as these lists.
 #[derive(Clone, Copy, Debug)]
 pub struct Word {
     size: u8,
-    // the place in the table
+    // the index in the table `WORDS`
     index: u8,
 }
 
@@ -135,7 +135,7 @@ impl Model for Word {
 }
 
 impl Word {
-    /// The first word of a size: all participants in one block.
+    /// Returns the first word of `size` participants: all of them in one block.
     pub fn first(size: u8) -> Word
         requires some { 1 ≤ size }
         requires few { size ≤ 4 }
@@ -144,8 +144,8 @@ impl Word {
         Word::first_allowed(size, 1)
     }
 
-    /// The first word of a size whose first block has at least m participants, or all where they
-    /// are fewer: all in one block.
+    /// Returns the first word of `size` participants whose first block has at least `m`
+    /// participants, or all if there are fewer. It is the word with all of them in one block.
     pub fn first_allowed(size: u8, m: u8) -> Word
         requires some { 1 ≤ size }
         requires few { size ≤ 4 }
@@ -159,7 +159,8 @@ impl Word {
         }
     }
 
-    /// Goes on to the next word of the size. At the last word it stays and answers false.
+    /// Moves on to the next word of the same size and returns `true`. At the last word, returns
+    /// `false` and leaves it unchanged.
     pub fn next(&mut self) -> bool
         ensures size { length self.new ≡ length self.old }
         ensures next { (k : ℕ) → slice_get (words 1 (length self.old)) k ≡ Some self.old
@@ -171,8 +172,9 @@ impl Word {
         self.next_allowed(1)
     }
 
-    /// Goes on to the next word of the size whose first block has at least m participants, or all
-    /// where they are fewer. At the last of them it stays and answers false.
+    /// Moves on to the next word of the same size whose first block has at least `m` participants,
+    /// or all if there are fewer, and returns `true`. If there is none, returns `false` and leaves
+    /// the word unchanged.
     pub fn next_allowed(&mut self, m: u8) -> bool
         requires one { 1 ≤ m }
         requires most { m ≤ 4 }
@@ -194,14 +196,14 @@ impl Word {
         false
     }
 
-    /// Whether the first block has at least m participants, or all where they are fewer.
+    /// Returns `true` if the first block has at least `m` participants, or all if there are fewer.
     pub fn allowed(&self, m: u8) -> bool
         ensures { result ≡ is_allowed m self.now }
     {
         m.min(self.size()) <= self.first_block()
     }
 
-    /// How many participants the first block has.
+    /// Returns the number of participants in the first block.
     fn first_block(&self) -> u8
         ensures { result ≡ count_by (λ block. block == 0) self.now }
     {
@@ -214,7 +216,7 @@ impl Word {
         count
     }
 
-    /// How many participants there are.
+    /// Returns the number of participants, from 1 to 4.
     pub fn size(&self) -> u8
         ensures count { result ≡ length self.now }
         ensures some { 1 ≤ result }
@@ -224,7 +226,7 @@ impl Word {
         self.size
     }
 
-    /// The number of the block of a participant.
+    /// Returns the block number, from 0, of participant `i`.
     pub fn level(&self, i: u8) -> u8
         requires { i < length self.now }
         ensures level { result ≡ slice_index self.now i }
@@ -233,8 +235,8 @@ impl Word {
         WORDS[self.index as usize][i as usize]
     }
 
-    /// Whether participant i sees participant j: whether the block of j is
-    /// that of i or an earlier one.
+    /// Returns `true` if participant `i` sees participant `j`: if the block of `j` is that of `i`
+    /// or an earlier one.
     pub fn sees(&self, i: u8, j: u8) -> bool
         requires i { i < length self.now }
         requires j { j < length self.now }
@@ -244,7 +246,7 @@ impl Word {
     }
 }
 
-/// How many words of a size there are.
+/// Returns the number of words of `size` participants.
 pub fn word_count(size: u8) -> u32
     requires some { 1 ≤ size }
     requires few { size ≤ 4 }
@@ -253,8 +255,8 @@ pub fn word_count(size: u8) -> u32
     allowed_count(size, 1)
 }
 
-/// How many words of a size have a first block of at least m participants, or
-/// of all where they are fewer.
+/// Returns the number of words of `size` participants whose first block has at least `m`
+/// participants, or all if there are fewer.
 pub fn allowed_count(size: u8, m: u8) -> u32
     requires some { 1 ≤ size }
     requires few { size ≤ 4 }
@@ -274,7 +276,7 @@ pub fn allowed_count(size: u8, m: u8) -> u32
     }
 }
 
-/// Where the words of a size begin in the table.
+/// Returns the index in `WORDS` of the first word of `size` participants.
 fn start(size: u8) -> u8
     requires some { 1 ≤ size }
     requires few { size ≤ 4 }
@@ -288,7 +290,7 @@ fn start(size: u8) -> u8
     }
 }
 
-/// Where they end.
+/// Returns the index in `WORDS` just past the last word of `size` participants.
 fn end(size: u8) -> u8
     requires some { 1 ≤ size }
     requires few { size ≤ 4 }

@@ -5,7 +5,7 @@ use Rattle.std.proofs.lemmas.List.Sums.{sum_by-cons}
 use Rattle.wf_model.specs.Simplex.{Simplex}
 use Rattle.wf_model.specs.Task.{Rule}
 use Rattle.wf_simplex.specs.Order.{same_simplex}
-use Rattle.wf_draft.specs.Draft.{Listed}
+use Rattle.wf_task_parse.specs.RawTask.{Listed}
 use Rattle.wf_task.specs.Slots.{entries_in}
 use Rattle.wf_task.specs.Judge.{tuples_for, wrong_length, no_output, answer_or, first_answer}
 use Rattle.wf_task.proofs.DraftsWithoutFault.{lists_more}

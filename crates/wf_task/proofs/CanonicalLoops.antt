@@ -13,7 +13,7 @@ use Rattle.wf_simplex.specs.Faces.{IsComplex}
 use Rattle.wf_simplex.proofs.Lemmas.{Has, has_at_place, face_within, length-within, contains-has}
 use Rattle.wf_task.specs.Borders.{borders_if, borders_of, place_before}
 use Rattle.wf_task.specs.Canonical.{is_inner, facets, HasFewFacets, list_data, simplex_data, rule_data, keyed, task_data}
-use Rattle.wf_draft.specs.Shape.{rule_of}
+use Rattle.wf_task_parse.specs.Shape.{rule_of}
 use Rattle.wf_task.specs.TaskSeen.{rules_seen, task_with_block}
 use Rattle.wf_model.proofs.Lemmas.{length_filter}
 use Rattle.wf_task.proofs.OneElementMore.{filter-passes, filter-fails}

@@ -16,15 +16,15 @@ use Rattle.wf_model.proofs.Lemmas.{on_processes, up_to}
 use Rattle.wf_simplex.specs.Order.{same_simplex, same_simplex-decides, simplex_cmp-total, nat_cmp-Equal}
 use Rattle.wf_simplex.proofs.Lemmas.{Has, has-in_order, in_order-in_order, length-in_order, has_at_place, whole_is_part, filter-has, is_in_complex, complex_of-sorted, complex_of-complex_of, all_of_has, has_of_all, complex_within, length-within}
 use Rattle.std.proofs.lemmas.Bool.{and_parts, or_parts, not-false}
-use Rattle.wf_task.specs.declared.slots.Slot.{Slot}
-use Rattle.wf_task.specs.declared.slots.Slot.TheVariants.{Missing, Once, Twice}
-use Rattle.wf_draft.specs.declared.fault.TaskFault.{TaskFault}
-use Rattle.wf_draft.specs.declared.fault.TaskFault.TheVariants as fault
-use Rattle.wf_draft.specs.Shape.{rule_of}
-use Rattle.wf_draft.specs.Draft.{Listed, ◌>>=◌}
+use Rattle.wf_task.specs.declared.slots.EntryCount.{EntryCount}
+use Rattle.wf_task.specs.declared.slots.EntryCount.TheVariants.{Missing, Once, Twice}
+use Rattle.wf_task_parse.specs.declared.fault.TaskFault.{TaskFault}
+use Rattle.wf_task_parse.specs.declared.fault.TaskFault.TheVariants as fault
+use Rattle.wf_task_parse.specs.Shape.{rule_of}
+use Rattle.wf_task_parse.specs.RawTask.{Listed, ◌>>=◌}
 use Rattle.wf_task.specs.Slots.{entries_in, Means, AreOf, IsOnly, AreOnly}
 use Rattle.wf_task.specs.Judge.{is_first_block, has_large, rule_has_large, names_processes, is_among, tuples_for, wrong_length, no_output, first_answer, refused_at, entries_judged, sizes_judged, tuples_judged, numbers_judged, rule_for, drafted}
-use Rattle.wf_draft.specs.Listed.{ListsVertices}
+use Rattle.wf_task_parse.specs.Listed.{ListsVertices}
 use Rattle.wf_task.specs.Faultless.{IsFaultless}
 use Rattle.wf_task.specs.Tuples.{IsTupleOf, AreTuples, IsRow, NamesRows, rows_at}
 use Rattle.wf_task.specs.TaskSeen.{rules_seen}
@@ -76,7 +76,7 @@ passed_at_last None e u h = refl
 passed_at_last (Some a) e u h = cc
 
 -- each input simplex has one entry
-pub only_entries : (slots : List Slot) (listed : Listed) (inputs : List Simplex) (u : Unit {0}) → AreOf slots listed.delta inputs → entries_judged listed inputs ≡ Ok u → AreOnly slots listed.delta inputs
+pub only_entries : (slots : List EntryCount) (listed : Listed) (inputs : List Simplex) (u : Unit {0}) → AreOf slots listed.delta inputs → entries_judged listed inputs ≡ Ok u → AreOnly slots listed.delta inputs
 unfolding entries_judged
 only_entries slots listed inputs u h ok =
     let missing = passed_at (position_from (λ s. length (entries_in listed.delta s) == 0) 0 inputs) fault.DeltaMissing _ u ok in
@@ -90,7 +90,7 @@ only_entries slots listed inputs u h ok =
           (All-get_or (λ s. nat_lt 1 (length (entries_in listed.delta s)) ≡ false) inputs i [] inside few);
     }
   where
-    one : (slot : Slot) (s : Simplex) → Means slot listed.delta s → (length (entries_in listed.delta s) == 0) ≡ false → nat_lt 1 (length (entries_in listed.delta s)) ≡ false → IsOnly slot listed.delta s
+    one : (slot : EntryCount) (s : Simplex) → Means slot listed.delta s → (length (entries_in listed.delta s) == 0) ≡ false → nat_lt 1 (length (entries_in listed.delta s)) ≡ false → IsOnly slot listed.delta s
     one Missing s means some few = let none : true ≡ false = sym (ap (λ es. length es == 0) means) ∙ some in cc
     one (Once k) s means some few = means
     one Twice s means some few = let low = ltb-false 1 (length (entries_in listed.delta s)) few in (let none : ⊥ = omega (arith, low, means) in none)
@@ -120,7 +120,7 @@ row_from s t h tuple = record {
   small = tuple.small;
 }
 
-pub slots_name_rows : (slots : List Slot) (listed : Listed) (inputs : List Simplex) → AreOnly slots listed.delta inputs → AreTuples listed inputs → All (IsSimplexWithin 4 255) inputs → All (NamesRows listed.delta) slots
+pub slots_name_rows : (slots : List EntryCount) (listed : Listed) (inputs : List Simplex) → AreOnly slots listed.delta inputs → AreTuples listed inputs → All (IsSimplexWithin 4 255) inputs → All (NamesRows listed.delta) slots
 slots_name_rows slots listed inputs only tuples simplices = λ k d h. (let same = get_or_default slots k d Missing h in subst (NamesRows listed.delta) (sym same) (named k (omega (arith, h, only.long))))
   where
     named : (k : ℕ) → k < length inputs → NamesRows listed.delta (slice_index_or slots k Missing)
@@ -143,17 +143,17 @@ pub seen_by : (f : Simplex → List Tuple) (ss : List Simplex) → rules_seen ss
 seen_by f [] = refl
 seen_by f (s ∷ ss) = ap (λ rest. rule_of s (f s) ∷ rest) (seen_by f ss)
 
-rows_are : (slots : List Slot) (listed : Listed) (inputs : List Simplex) → AreOnly slots listed.delta inputs → map (rows_at listed.delta) slots ≡ map (λ s. (rule_for listed s).tuples) inputs
+rows_are : (slots : List EntryCount) (listed : Listed) (inputs : List Simplex) → AreOnly slots listed.delta inputs → map (rows_at listed.delta) slots ≡ map (λ s. (rule_for listed s).tuples) inputs
 rows_are slots listed inputs only =
     same_maps (rows_at listed.delta) (λ s. (rule_for listed s).tuples) Missing [] slots inputs only.long
     (λ i inside. ap (in_order (slice_cmp nat_cmp)) (lists-only slots listed.delta inputs i only inside))
 
-pub rules_are : (slots : List Slot) (listed : Listed) (inputs : List Simplex) (rows : List (List Tuple)) → AreOnly slots listed.delta inputs → rows ≡ map (rows_at listed.delta) slots
+pub rules_are : (slots : List EntryCount) (listed : Listed) (inputs : List Simplex) (rows : List (List Tuple)) → AreOnly slots listed.delta inputs → rows ≡ map (rows_at listed.delta) slots
     → rules_seen inputs rows ≡ map (rule_for listed) inputs
 rules_are slots listed inputs rows only is =
     ap (rules_seen inputs) (is ∙ rows_are slots listed inputs only) ∙ seen_by (λ s. (rule_for listed s).tuples) inputs
 
-pub rows_long : (slots : List Slot) (rules : List Rule) (inputs : List Simplex) (rows : List (List Tuple)) → AreOnly slots rules inputs → rows ≡ map (rows_at rules) slots → length rows ≡ length inputs
+pub rows_long : (slots : List EntryCount) (rules : List Rule) (inputs : List Simplex) (rows : List (List Tuple)) → AreOnly slots rules inputs → rows ≡ map (rows_at rules) slots → length rows ≡ length inputs
 rows_long slots rules inputs rows only is = ap length is ∙ length-map slots (rows_at rules) ∙ only.long
 
 -- ---- the rule of an input simplex
@@ -346,21 +346,21 @@ has_from_order v xs h = list-has v xs (has-in_order nat_cmp nat_cmp_total nat_cm
 
 -- ---- the parts of the task
 
-only_of : (listed : Listed) (slots : List Slot) → IsFaultless listed → AreOf slots listed.delta (complex_of listed.inputs) → AreOnly slots listed.delta (complex_of listed.inputs)
+only_of : (listed : Listed) (slots : List EntryCount) → IsFaultless listed → AreOf slots listed.delta (complex_of listed.inputs) → AreOnly slots listed.delta (complex_of listed.inputs)
 only_of listed slots h of = only_entries slots listed (complex_of listed.inputs) tt of h.entries
 
-pub slots_of_faultless : (listed : Listed) (slots : List Slot) (inputs : List Simplex) → IsFaultless listed → inputs ≡ complex_of listed.inputs → AreOf slots listed.delta inputs → All (NamesRows listed.delta) slots
+pub slots_of_faultless : (listed : Listed) (slots : List EntryCount) (inputs : List Simplex) → IsFaultless listed → inputs ≡ complex_of listed.inputs → AreOf slots listed.delta inputs → All (NamesRows listed.delta) slots
 slots_of_faultless listed slots inputs h is of =
     let numbers = are_judged listed tt h.numbers in
     slots_name_rows slots listed (complex_of listed.inputs) (only_of listed slots h (subst (AreOf slots listed.delta) is of)) (are_outputs listed (complex_of listed.inputs) tt numbers h.tuples).tuples
     (complex_within 4 255 listed.inputs (all_within_four listed listed.inputs numbers (inputs_within listed numbers h.vertices.inputs)))
 
-pub rows_of_faultless : (listed : Listed) (slots : List Slot) (inputs : List Simplex) (rows : List (List Tuple)) → IsFaultless listed → inputs ≡ complex_of listed.inputs → AreOf slots listed.delta inputs
+pub rows_of_faultless : (listed : Listed) (slots : List EntryCount) (inputs : List Simplex) (rows : List (List Tuple)) → IsFaultless listed → inputs ≡ complex_of listed.inputs → AreOf slots listed.delta inputs
     → rows ≡ map (rows_at listed.delta) slots → length rows ≡ length inputs
 rows_of_faultless listed slots inputs rows h is of made =
     rows_long slots listed.delta (complex_of listed.inputs) rows (only_of listed slots h (subst (AreOf slots listed.delta) is of)) made ∙ ap length (sym is)
 
-pub rules_of_faultless : (listed : Listed) (slots : List Slot) (inputs : List Simplex) (rows : List (List Tuple)) → IsFaultless listed → inputs ≡ complex_of listed.inputs → AreOf slots listed.delta inputs
+pub rules_of_faultless : (listed : Listed) (slots : List EntryCount) (inputs : List Simplex) (rows : List (List Tuple)) → IsFaultless listed → inputs ≡ complex_of listed.inputs → AreOf slots listed.delta inputs
     → rows ≡ map (rows_at listed.delta) slots → rules_seen inputs rows ≡ (drafted listed).delta
 rules_of_faultless listed slots inputs rows h is of made =
     ap (λ ss. rules_seen ss rows) is ∙ rules_are slots listed (complex_of listed.inputs) rows (only_of listed slots h (subst (AreOf slots listed.delta) is of)) made

@@ -12,13 +12,13 @@ use Rattle.std.proofs.lemmas.Option.{get_or_from_slice_get, slice_get_within}
 use Rattle.wf_model.specs.Simplex.{Simplex, simplex_cmp}
 use Rattle.wf_model.specs.Task.{Rule, IsSimplexWithin}
 use Rattle.wf_simplex.proofs.Lemmas.{contains-has, Has, has_at_place}
-use Rattle.wf_draft.specs.declared.shape.DeltaEntry.{DeltaEntry}
-use Rattle.wf_draft.specs.DraftSeen.{entry_seen}
+use Rattle.wf_task_parse.specs.declared.shape.DeltaEntry.{DeltaEntry}
+use Rattle.wf_task_parse.specs.DraftSeen.{entry_seen}
 use Rattle.wf_task.specs.Judge.{is_among}
 use Rattle.wf_simplex.specs.Order.{same_simplex, same_simplex-decides, simplex_cmp-total}
-use Rattle.wf_task.specs.declared.slots.Slot.{Slot}
-use Rattle.wf_task.specs.declared.slots.Slot.TheVariants.{Missing, Once, Twice}
-use Rattle.wf_draft.specs.Shape.{rule_of}
+use Rattle.wf_task.specs.declared.slots.EntryCount.{EntryCount}
+use Rattle.wf_task.specs.declared.slots.EntryCount.TheVariants.{Missing, Once, Twice}
+use Rattle.wf_task_parse.specs.Shape.{rule_of}
 use Rattle.wf_task.specs.Slots.{with_entry, entries_in, Means, AreOf, is_missing, is_twice}
 
 entries-push : (rules : List Rule) (e : Rule) (s : Simplex) → entries_in (rules ++ (e ∷ [])) s ≡ entries_in rules s ++ entries_in (e ∷ []) s
@@ -40,7 +40,7 @@ before_end (r ∷ rules) e d zero h = refl
 before_end (r ∷ rules) e d (suc k) h = before_end rules e d k (omega (arith, h))
 
 -- an entry for the simplex
-pub means_more : (slot : Slot) (rules : List Rule) (e : Rule) (s : Simplex) → Means slot rules s → same_simplex e.input s ≡ true → Means (with_entry slot (length rules)) (rules ++ (e ∷ [])) s
+pub means_more : (slot : EntryCount) (rules : List Rule) (e : Rule) (s : Simplex) → Means slot rules s → same_simplex e.input s ≡ true → Means (with_entry slot (length rules)) (rules ++ (e ∷ [])) s
 means_more Missing rules e s h same = (
   omega (arith, length-append rules (e ∷ [])),
   entries-push rules e s ∙ ap (λ es. es ++ entries_in (e ∷ []) s) h ∙ entries-one e s same ∙ ap (λ r. r ∷ []) (sym (at_end rules e (rule_of [] []))),
@@ -51,7 +51,7 @@ means_more Twice rules e s h same =
     omega (arith, h, ap length (entries-push rules e s), length-append (entries_in rules s) (entries_in (e ∷ []) s))
 
 -- an entry for another one
-pub means_other : (slot : Slot) (rules : List Rule) (e : Rule) (s : Simplex) → Means slot rules s → same_simplex e.input s ≡ false → Means slot (rules ++ (e ∷ [])) s
+pub means_other : (slot : EntryCount) (rules : List Rule) (e : Rule) (s : Simplex) → Means slot rules s → same_simplex e.input s ≡ false → Means slot (rules ++ (e ∷ [])) s
 means_other Missing rules e s h other = entries-push rules e s ∙ ap (λ es. es ++ entries_in (e ∷ []) s) h ∙ entries-none e s other
 means_other (Once k) rules e s h other = (
   omega (arith, h.0, length-append rules (e ∷ [])),
@@ -81,7 +81,7 @@ one_place inputs i j up hi hj same apart = by (nat_lt i j) refl
     by false e = let above : j < i = omega (arith, ltb-false i j e, apart) in clash j i above hi (sym same)
 
 -- an entry for the simplex at a place
-pub slots-found : (slots : List Slot) (rules : List Rule) (inputs : List Simplex) (e : Rule) (j : ℕ) → IsStrictlySortedBy simplex_cmp inputs → AreOf slots rules inputs
+pub slots-found : (slots : List EntryCount) (rules : List Rule) (inputs : List Simplex) (e : Rule) (j : ℕ) → IsStrictlySortedBy simplex_cmp inputs → AreOf slots rules inputs
     → slice_get inputs j ≡ Some e.input → AreOf (slice_set slots j (with_entry (slice_index_or slots j Missing) (length rules))) (rules ++ (e ∷ [])) inputs
 slots-found slots rules inputs e j up h here = record { long = length-set slots j _ ∙ h.long; each = λ i inside. by i inside (i == j) refl }
   where
@@ -105,7 +105,7 @@ slots-found slots rules inputs e j up h here = record { long = length-set slots 
         (different e.input (slice_index_or inputs i []) (λ is. one_place inputs i j up inside within (sym is ∙ sym at) apart)))
 
 -- an entry for none of them
-pub slots-stray : (slots : List Slot) (rules : List Rule) (inputs : List Simplex) (e : Rule) → AreOf slots rules inputs → (Contains inputs e.input → ⊥) → AreOf slots (rules ++ (e ∷ [])) inputs
+pub slots-stray : (slots : List EntryCount) (rules : List Rule) (inputs : List Simplex) (e : Rule) → AreOf slots rules inputs → (Contains inputs e.input → ⊥) → AreOf slots (rules ++ (e ∷ [])) inputs
 slots-stray slots rules inputs e h none = record {
   long = h.long;
   each = λ i inside. means_other (slice_index_or slots i Missing) rules e (slice_index_or inputs i []) (h.each i inside)
@@ -122,22 +122,22 @@ same_place p q d e n (x ∷ xs) [] h each = absurd (let none : ⊥ = omega (arit
 same_place p q d e n (x ∷ xs) (y ∷ ys) h each =
     rw (each 0 (omega arith)) (ap (cond (q y) (Some n)) (same_place p q d e (n + 1) xs ys (omega (arith, h)) (λ i inside. each (suc i) (omega (arith, inside)))))
 
-missing_is : (slot : Slot) (rules : List Rule) (s : Simplex) → Means slot rules s → is_missing slot ≡ (length (entries_in rules s) == 0)
+missing_is : (slot : EntryCount) (rules : List Rule) (s : Simplex) → Means slot rules s → is_missing slot ≡ (length (entries_in rules s) == 0)
 missing_is Missing rules s h = sym (ap (λ es. length es == 0) h)
 missing_is (Once k) rules s h = sym (ap (λ es. length es == 0) h.1)
 missing_is Twice rules s h = sym (ne_eqb (length (entries_in rules s)) 0 (λ e. (let none : ⊥ = omega (arith, e, h) in none)))
 
-twice_is : (slot : Slot) (rules : List Rule) (s : Simplex) → Means slot rules s → is_twice slot ≡ nat_lt 1 (length (entries_in rules s))
+twice_is : (slot : EntryCount) (rules : List Rule) (s : Simplex) → Means slot rules s → is_twice slot ≡ nat_lt 1 (length (entries_in rules s))
 twice_is Missing rules s h = sym (ap (λ es. nat_lt 1 (length es)) h)
 twice_is (Once k) rules s h = sym (ap (λ es. nat_lt 1 (length es)) h.1)
 twice_is Twice rules s h = sym (lt-ltb 1 (length (entries_in rules s)) h)
 
-pub first_missing_is : (slots : List Slot) (rules : List Rule) (inputs : List Simplex) → AreOf slots rules inputs → position_from is_missing 0 slots ≡ position_from (λ s. length (entries_in rules s) == 0) 0 inputs
+pub first_missing_is : (slots : List EntryCount) (rules : List Rule) (inputs : List Simplex) → AreOf slots rules inputs → position_from is_missing 0 slots ≡ position_from (λ s. length (entries_in rules s) == 0) 0 inputs
 first_missing_is slots rules inputs h =
     same_place is_missing (λ s. length (entries_in rules s) == 0) Missing [] 0 slots inputs h.long
     (λ i inside. missing_is (slice_index_or slots i Missing) rules (slice_index_or inputs i []) (h.each i (omega (arith, inside, h.long))))
 
-pub first_twice_is : (slots : List Slot) (rules : List Rule) (inputs : List Simplex) → AreOf slots rules inputs → position_from is_twice 0 slots ≡ position_from (λ s. nat_lt 1 (length (entries_in rules s))) 0 inputs
+pub first_twice_is : (slots : List EntryCount) (rules : List Rule) (inputs : List Simplex) → AreOf slots rules inputs → position_from is_twice 0 slots ≡ position_from (λ s. nat_lt 1 (length (entries_in rules s))) 0 inputs
 first_twice_is slots rules inputs h =
     same_place is_twice (λ s. nat_lt 1 (length (entries_in rules s))) Missing [] 0 slots inputs h.long
     (λ i inside. twice_is (slice_index_or slots i Missing) rules (slice_index_or inputs i []) (h.each i (omega (arith, inside, h.long))))
@@ -189,7 +189,7 @@ pub inner : {X : Type 0} {x y : X} → Some x ≡ Some y → x ≡ y
 inner e = cc
 
 -- one turn of the loop, at an entry for the input simplex of number j
-pub found_step : (slots new : List Slot) (delta : List DeltaEntry) (i : ℕ) (e : DeltaEntry) (inputs : List Simplex) (j : ℕ) (s : Simplex) (old made : Slot) → IsStrictlySortedBy simplex_cmp inputs
+pub found_step : (slots new : List EntryCount) (delta : List DeltaEntry) (i : ℕ) (e : DeltaEntry) (inputs : List Simplex) (j : ℕ) (s : Simplex) (old made : EntryCount) → IsStrictlySortedBy simplex_cmp inputs
     → i < length delta → e ≡ slice_index_or delta i e → AreOf slots (map entry_seen (take i delta)) inputs → slice_get inputs j ≡ Some s → s ≡ (entry_seen e).input
     → old ≡ slice_index_or slots j old → made ≡ with_entry old i → new ≡ slice_set slots j made → AreOf new (map entry_seen (take (i + 1) delta)) inputs
 found_step slots new delta i e inputs j s old made up inside is h here same old-is made-is new-is =
@@ -202,7 +202,7 @@ found_step slots new delta i e inputs j s old made up inside is h here same old-
     subst₂ (λ ss rs. AreOf ss rs inputs) (ap (slice_set slots j) (sym made-here) ∙ sym new-is) (sym (entries_more delta i e inside is)) next
 
 -- and at an entry for none
-pub stray_step : (slots new : List Slot) (delta : List DeltaEntry) (i : ℕ) (e : DeltaEntry) (inputs : List Simplex) → i < length delta → e ≡ slice_index_or delta i e
+pub stray_step : (slots new : List EntryCount) (delta : List DeltaEntry) (i : ℕ) (e : DeltaEntry) (inputs : List Simplex) → i < length delta → e ≡ slice_index_or delta i e
     → AreOf slots (map entry_seen (take i delta)) inputs → (Contains inputs (entry_seen e).input → ⊥) → new ≡ slots → AreOf new (map entry_seen (take (i + 1) delta)) inputs
 stray_step slots new delta i e inputs inside is h none new-is =
     subst₂ (λ ss rs. AreOf ss rs inputs) (sym new-is) (sym (entries_more delta i e inside is)) (slots-stray slots (map entry_seen (take i delta)) inputs (entry_seen e) h none)

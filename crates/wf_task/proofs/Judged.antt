@@ -6,9 +6,9 @@ use Rattle.std.proofs.lemmas.List.Elements.{All-nil, All-cons, All-head, All-tai
 use Rattle.wf_model.specs.Simplex.{Simplex, processes_of, values_of, is_nonempty, is_ascending}
 use Rattle.wf_model.specs.Task.{IsSimplexWithin, largest_value}
 use Rattle.wf_simplex.proofs.Lemmas.{low_processes}
-use Rattle.wf_draft.specs.declared.fault.TaskFault.{TaskFault}
-use Rattle.wf_draft.specs.declared.fault.TaskFault.TheVariants as fault
-use Rattle.wf_draft.specs.Draft.{Listed, ◌>>=◌}
+use Rattle.wf_task_parse.specs.declared.fault.TaskFault.{TaskFault}
+use Rattle.wf_task_parse.specs.declared.fault.TaskFault.TheVariants as fault
+use Rattle.wf_task_parse.specs.RawTask.{Listed, ◌>>=◌}
 use Rattle.wf_task.specs.Judge.{is_large, has_large, rule_has_large, some_large, names_processes, all_processes_named, refused_if, numbers_judged}
 
 -- a refusal that did not come

@@ -21,13 +21,13 @@ use Rattle.wf_model.proofs.Lemmas.{length_filter, inputs_within, outputs_within,
 use Rattle.wf_simplex.specs.Faces.{IsComplex}
 use Rattle.wf_simplex.specs.Order.{same_simplex, same_simplex-decides, simplex_cmp-total}
 use Rattle.wf_simplex.proofs.Lemmas.{Has, has-filter, complex_of-sorted, has_of_all, all_of_has, length-within, contains-has, map-has, has-map}
-use Rattle.wf_draft.specs.declared.fault.TaskFault.{TaskFault}
-use Rattle.wf_draft.specs.Shape.{each, whole_of, pair_of, simplex_of, tuples_of, rule_of, entry_of, list_of}
-use Rattle.wf_draft.specs.Draft.{Listed, ◌>>=◌, draft_of}
+use Rattle.wf_task_parse.specs.declared.fault.TaskFault.{TaskFault}
+use Rattle.wf_task_parse.specs.Shape.{each, whole_of, pair_of, simplex_of, tuples_of, rule_of, entry_of, list_of}
+use Rattle.wf_task_parse.specs.RawTask.{Listed, ◌>>=◌, draft_of}
 use Rattle.wf_task.specs.Slots.{entries_in}
 use Rattle.wf_task.specs.Judge.{is_first_block, is_large, has_large, rule_has_large, some_large, names_processes, all_processes_named, is_among, tuples_for, wrong_length, no_output, first_answer, numbers_judged, sizes_judged, entries_judged, tuples_judged, rule_for, drafted, judged, task_of_json, task_of_text}
-use Rattle.wf_task.specs.declared.task.TheConstants.{LONGEST}
-use Rattle.wf_draft.proofs.Lemmas.{json_of-some}
+use Rattle.wf_task.specs.declared.task.TheConstants.{MAX_TEXT_BYTES}
+use Rattle.wf_task_parse.proofs.Lemmas.{json_of-some}
 use Rattle.wf_task.specs.Canonical.{is_inner, facets, IsListable, version_of, listed_of, number_data, list_data, vertex_data, simplex_data, tuple_data, rule_data, task_data}
 use Rattle.wf_task.proofs.Judged.{limit-few}
 use Rattle.wf_task.proofs.DraftsWithoutFault.{within_more}
@@ -350,7 +350,7 @@ module _ (t : Task) (h : IsListable t) where
     rule_parts = rule-short;
   }
 
-  text-short : length (compact_text (task_data t)) ≤ LONGEST
+  text-short : length (compact_text (task_data t)) ≤ MAX_TEXT_BYTES
   text-short = task-long t short-parts
 
   -- its value nests no deeper than a reading follows
@@ -361,7 +361,7 @@ module _ (t : Task) (h : IsListable t) where
   pub text-back : (text : List ℕ) → text ≡ compact_text (task_data t) → IsUtf8 text → read text ≡ Some (task_data t) → task_of_text text ≡ Ok t
   unfolding task_of_text
   text-back text is utf8 reads =
-      rw (le-ltb LONGEST (length text) (subst (λ w. length w ≤ LONGEST) (sym is) text-short))
+      rw (le-ltb MAX_TEXT_BYTES (length text) (subst (λ w. length w ≤ MAX_TEXT_BYTES) (sym is) text-short))
       (rw (json_of-some text (task_data t) utf8 reads) read-back)
 
 -- the text of a value that is the task's

@@ -18,7 +18,7 @@ use Rattle.wf_model.proofs.Lemmas.{Ascends, ascends_from, or_none}
 use Rattle.wf_simplex.specs.Entries.{value_at}
 use Rattle.wf_simplex.specs.Order.{nat_cmp-Equal, slice_cmp-Equal}
 use Rattle.wf_simplex.proofs.Lemmas.{in_order-dedup}
-use Rattle.wf_set.specs.Sets.{values_in}
+use Rattle.wf_base.specs.Set.Sets.{values_in}
 use Rattle.wf_task.specs.Mask.{HasMore, IsMaskOf}
 
 -- ---- rows

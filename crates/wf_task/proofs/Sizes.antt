@@ -5,8 +5,8 @@ use Rattle.std.proofs.lemmas.List.Elements.{All-get_or}
 use Rattle.std.proofs.lemmas.List.Sums.{sum_by-cons}
 use Rattle.wf_model.specs.Simplex.{Simplex}
 use Rattle.wf_model.specs.Task.{IsSimplexWithin}
-use Rattle.wf_draft.specs.declared.shape.ListedSimplex.{ListedSimplex}
-use Rattle.wf_draft.specs.DraftSeen.{pairs_seen}
+use Rattle.wf_task_parse.specs.declared.shape.ListedSimplex.{ListedSimplex}
+use Rattle.wf_task_parse.specs.DraftSeen.{pairs_seen}
 
 sum_by-nil : {X : Type 0} (f : X → ℕ) → sum_by f [] ≡ 0
 sum_by-nil f = refl

@@ -5,8 +5,8 @@ use Rattle.wf_model.specs.Lists.{has, in_order}
 use Rattle.wf_model.specs.Simplex.{values_of}
 use Rattle.wf_model.specs.Task.{Task, values}
 use Rattle.wf_model.proofs.Lemmas.{ascends_from, has_in_order, in_order_ascends}
-use Rattle.wf_set.specs.Sets.{values_in}
-use Rattle.wf_set.proofs.Lemmas.{values_listed}
+use Rattle.wf_base.specs.Set.Sets.{values_in}
+use Rattle.wf_base.proofs.OfSet.Lemmas.{values_listed}
 use Rattle.wf_task.specs.Mask.{IsMaskOf}
 use Rattle.wf_task.proofs.DraftsWithoutFault.{has_from_order}
 

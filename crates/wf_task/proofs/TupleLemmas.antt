@@ -7,10 +7,10 @@ use Rattle.wf_model.specs.Simplex.{Simplex, processes_of, values_of, is_nonempty
 use Rattle.wf_model.specs.Task.{Rule, Tuple, IsSimplexWithin}
 use Rattle.wf_simplex.specs.Order.{same_simplex}
 use Rattle.std.proofs.lemmas.Bool.{and_parts, and_from, or_parts, not-false}
-use Rattle.wf_task.specs.declared.slots.Slot.{Slot}
-use Rattle.wf_task.specs.declared.slots.Slot.TheVariants.{Missing, Once, Twice}
-use Rattle.wf_draft.specs.Draft.{Listed}
-use Rattle.wf_draft.specs.Shape.{rule_of}
+use Rattle.wf_task.specs.declared.slots.EntryCount.{EntryCount}
+use Rattle.wf_task.specs.declared.slots.EntryCount.TheVariants.{Missing, Once, Twice}
+use Rattle.wf_task_parse.specs.RawTask.{Listed}
+use Rattle.wf_task_parse.specs.Shape.{rule_of}
 use Rattle.wf_task.specs.Slots.{entries_in, lists_at, IsOnly, IsOnceBelow, AreOnly}
 use Rattle.wf_task.specs.Judge.{is_large, has_large, rule_has_large, some_large, is_among, tuples_for, wrong_length, no_output, answer_or, first_answer}
 use Rattle.wf_task.specs.Tuples.{IsTupleOf, AreTuples}
@@ -88,25 +88,25 @@ first_later p f xs i x inside is fails =
 
 -- ---- the lists that the slots name
 
-pub lists-only : (slots : List Slot) (rules : List Rule) (inputs : List Simplex) (i : ℕ) → AreOnly slots rules inputs → i < length inputs
+pub lists-only : (slots : List EntryCount) (rules : List Rule) (inputs : List Simplex) (i : ℕ) → AreOnly slots rules inputs → i < length inputs
     → lists_at (slice_index_or slots i Missing) rules ≡ flat_map (λ rule. rule.tuples) (entries_in rules (slice_index_or inputs i []))
 lists-only slots rules inputs i h inside = by (slice_index_or slots i Missing) (h.each i inside)
   where
-    by : (slot : Slot) → IsOnly slot rules (slice_index_or inputs i []) → lists_at slot rules ≡ flat_map (λ rule. rule.tuples) (entries_in rules (slice_index_or inputs i []))
+    by : (slot : EntryCount) → IsOnly slot rules (slice_index_or inputs i []) → lists_at slot rules ≡ flat_map (λ rule. rule.tuples) (entries_in rules (slice_index_or inputs i []))
     by Missing none = absurd none
     by (Once k) only = sym (ap (flat_map (λ rule. rule.tuples)) only.1 ∙ append-nil (slice_index_or rules k (rule_of [] [])).tuples)
     by Twice none = absurd none
 
-pub once-only : (slots : List Slot) (rules : List Rule) (inputs : List Simplex) (i : ℕ) → AreOnly slots rules inputs → i < length inputs → IsOnceBelow (length rules) (slice_index_or slots i Missing)
+pub once-only : (slots : List EntryCount) (rules : List Rule) (inputs : List Simplex) (i : ℕ) → AreOnly slots rules inputs → i < length inputs → IsOnceBelow (length rules) (slice_index_or slots i Missing)
 once-only slots rules inputs i h inside = by (slice_index_or slots i Missing) (h.each i inside)
   where
-    by : (slot : Slot) → IsOnly slot rules (slice_index_or inputs i []) → IsOnceBelow (length rules) slot
+    by : (slot : EntryCount) → IsOnly slot rules (slice_index_or inputs i []) → IsOnceBelow (length rules) slot
     by Missing none = none
     by (Once k) only = only.0
     by Twice none = none
 
 -- the lists at a slot are those for its simplex
-pub lists_here : (slots : List Slot) (delta seen : List Rule) (inputs : List Simplex) (i : ℕ) (lists : List Tuple) → AreOnly slots delta inputs → i < length inputs
+pub lists_here : (slots : List EntryCount) (delta seen : List Rule) (inputs : List Simplex) (i : ℕ) (lists : List Tuple) → AreOnly slots delta inputs → i < length inputs
     → lists ≡ lists_at (slice_index_or slots i Missing) seen → seen ≡ delta → lists ≡ flat_map (λ rule. rule.tuples) (entries_in delta (slice_index_or inputs i []))
 lists_here slots delta seen inputs i lists h inside is same = is ∙ ap (lists_at (slice_index_or slots i Missing)) same ∙ lists-only slots delta inputs i h inside
 

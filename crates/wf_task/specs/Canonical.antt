@@ -8,7 +8,7 @@ use Rattle.wf_model.specs.Limits.{most_outputs}
 use Rattle.wf_model.specs.Simplex.{Simplex, Vertex, is_face}
 use Rattle.wf_model.specs.Task.{Task, Rule, Tuple, IsTask, inputs}
 use Rattle.wf_simplex.specs.Faces.{IsComplex}
-use Rattle.wf_draft.specs.Draft.{Listed}
+use Rattle.wf_task_parse.specs.RawTask.{Listed}
 
 -- ---- what it lists
 

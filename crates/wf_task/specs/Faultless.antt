@@ -1,8 +1,8 @@
 -- Drafts that were read and judged.
 use Rattle.std.specs.Prelude.{◌≡◌, ◌==◌, true, false, length, Ok}
 use Rattle.wf_model.specs.Simplex.{complex_of}
-use Rattle.wf_draft.specs.Draft.{Listed}
-use Rattle.wf_draft.specs.Listed.{ListsVertices}
+use Rattle.wf_task_parse.specs.RawTask.{Listed}
+use Rattle.wf_task_parse.specs.Listed.{ListsVertices}
 use Rattle.wf_task.specs.Judge.{is_first_block, numbers_judged, sizes_judged, entries_judged, tuples_judged}
 
 -- what the judgement of a draft without a fault went through

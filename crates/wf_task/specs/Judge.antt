@@ -9,11 +9,11 @@ use Rattle.wf_model.specs.Limits.{most_bytes, most_inputs, most_outputs, most_tu
 use Rattle.wf_model.specs.Simplex.{Simplex, processes_of, values_of, is_ascending, complex_of}
 use Rattle.wf_model.specs.Task.{Task, Rule, Tuple, largest_value}
 use Rattle.wf_simplex.specs.Order.{same_simplex}
-use Rattle.wf_draft.specs.declared.fault.TaskLimit.TheVariants as limit
-use Rattle.wf_draft.specs.declared.fault.TaskFault.{TaskFault}
-use Rattle.wf_draft.specs.declared.fault.TaskFault.TheVariants as fault
-use Rattle.wf_draft.specs.Draft.{Listed, ◌>>=◌, or_fault, draft_of}
-use Rattle.wf_draft.specs.Text.{json_of}
+use Rattle.wf_task_parse.specs.declared.fault.TaskLimit.TheVariants as limit
+use Rattle.wf_task_parse.specs.declared.fault.TaskFault.{TaskFault}
+use Rattle.wf_task_parse.specs.declared.fault.TaskFault.TheVariants as fault
+use Rattle.wf_task_parse.specs.RawTask.{Listed, ◌>>=◌, or_fault, draft_of}
+use Rattle.wf_task_parse.specs.Text.{json_of}
 use Rattle.wf_task.specs.Slots.{entries_in}
 
 -- ---- what is asked

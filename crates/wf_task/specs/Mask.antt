@@ -1,7 +1,7 @@
 -- Sets that hold the values of a list.
 use Rattle.std.specs.Prelude.{◌≡◌, ◌||◌, ℕ, List}
 use Rattle.wf_model.specs.Lists.{has}
-use Rattle.wf_set.specs.Sets.{values_in}
+use Rattle.wf_base.specs.Set.Sets.{values_in}
 
 -- the set has what the list has
 abbrev pub IsMaskOf : List ℕ → List ℕ → Type 0

@@ -5,7 +5,7 @@ use Rattle.wf_model.specs.Task.{Task, Rule, Tuple, IsTask, values}
 use Rattle.wf_task.specs.declared.task.Task.TheInside.{Inside}
 use Rattle.wf_task.specs.Canonical.{HasFewFacets}
 use Rattle.wf_task.specs.Mask.{IsMaskOf}
-use Rattle.wf_draft.specs.Shape.{rule_of}
+use Rattle.wf_task_parse.specs.Shape.{rule_of}
 
 -- each input simplex with its tuples
 abbrev pub rules_seen : List Simplex → List (List Tuple) → List Rule

@@ -5,9 +5,9 @@ use Rattle.std.specs.Ordering.{nat_cmp}
 use Rattle.std.specs.Cmp.Lexicographic.{slice_cmp}
 use Rattle.wf_model.specs.Lists.{in_order}
 use Rattle.wf_model.specs.Task.{Rule, Tuple, IsTaskSimplex}
-use Rattle.wf_task.specs.declared.slots.Slot.{Slot}
+use Rattle.wf_task.specs.declared.slots.EntryCount.{EntryCount}
 use Rattle.wf_task.specs.Slots.{IsOnceBelow, lists_at}
-use Rattle.wf_draft.specs.Draft.{Listed}
+use Rattle.wf_task_parse.specs.RawTask.{Listed}
 use Rattle.wf_task.specs.Judge.{tuples_for}
 
 -- so many values, each at most 255
@@ -27,12 +27,12 @@ pub record IsRow (values : List ℕ) : Type 0 where
   pub small : All (λ x. x ≤ 255) values
 
 -- a slot that names one of the entries, whose value lists are rows
-pub record NamesRows (rules : List Rule) (slot : Slot) : Type 0 where
+pub record NamesRows (rules : List Rule) (slot : EntryCount) : Type 0 where
   pub once : IsOnceBelow (length rules) slot
   pub rows : All IsRow (lists_at slot rules)
 
 -- the rows of an entry: its value lists in order, each once
-abbrev pub rows_at : List Rule → Slot → List Tuple
+abbrev pub rows_at : List Rule → EntryCount → List Tuple
 rows_at rules slot = in_order (slice_cmp nat_cmp) (lists_at slot rules)
 
 -- each of the entries is for a simplex of processes below four, with values up to 255

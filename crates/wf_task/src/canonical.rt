@@ -1,4 +1,4 @@
-//! The canonical text of a task.
+//! The canonical text of a task, by way of its JSON value.
 
 ghost use Rattle.std.specs.Prelude.{
   ◌≡◌,
@@ -31,7 +31,7 @@ ghost use Rattle.wf_task.specs.Canonical.{
   keyed,
   version_of,
 };
-ghost use Rattle.wf_draft.specs.Shape.{rule_of};
+ghost use Rattle.wf_task_parse.specs.Shape.{rule_of};
 ghost use Rattle.wf_task.specs.TaskSeen.{rules_seen};
 
 use crate::row::Row;
@@ -41,15 +41,15 @@ use wf_simplex::{Complex, Simplex};
 
 // ---- facets
 
-/// The simplices of a complex that are no proper face of another one. It takes n log n steps, and
-/// memory for four times the simplices.
+/// Returns the facets of `complex`: its simplices that are not proper faces of another one, in
+/// ascending order. It takes O(n log n) steps, and memory for four times the simplices.
 pub(crate) fn facets(alloc: Global, complex: &Complex) -> Result<Vec<Simplex>, AllocError>
     requires { HasFewFacets complex.now }
     ensures facets { IfOk result (λ found. found.items ≡ facets complex.now) }
     ensures complex { IsComplex complex.now }
 {
     let simplices = complex.simplices();
-    let inner = Complex::from_facets(alloc, &borders(alloc, simplices)?)?;
+    let inner = Complex::from_facets(alloc, &boundary_faces(alloc, simplices)?)?;
     let mut found = Vec::new(alloc);
     for simplex in simplices {
         if !inner.contains(simplex) {
@@ -59,8 +59,8 @@ pub(crate) fn facets(alloc: Global, complex: &Complex) -> Result<Vec<Simplex>, A
     Ok(found)
 }
 
-/// The faces with one vertex less, of each simplex.
-fn borders(alloc: Global, simplices: &[Simplex]) -> Result<Vec<Simplex>, AllocError>
+/// Returns all faces of `simplices` that have exactly one vertex less than their simplex.
+fn boundary_faces(alloc: Global, simplices: &[Simplex]) -> Result<Vec<Simplex>, AllocError>
     ensures { IfOk result (λ borders. borders.items ≡ flat_map borders_of simplices.now) }
 {
     let mut borders = Vec::new(alloc);
@@ -70,7 +70,8 @@ fn borders(alloc: Global, simplices: &[Simplex]) -> Result<Vec<Simplex>, AllocEr
     Ok(borders)
 }
 
-/// Adds the faces with one vertex less.
+/// Appends to `boundary_faces` the faces of `simplex` that have exactly one vertex less. A single
+/// vertex has none.
 fn add_borders(borders: &mut Vec<Simplex>, simplex: &Simplex) -> Result<(), AllocError>
     ensures { OnOk result (borders.new.items ≡ borders.old.items ++ borders_of simplex.now) }
 {
@@ -84,7 +85,7 @@ fn add_borders(borders: &mut Vec<Simplex>, simplex: &Simplex) -> Result<(), Allo
     Ok(())
 }
 
-/// The simplex without the vertex at this place.
+/// Returns `simplex` without its vertex at place `left_out`. It must have at least two vertices.
 fn without(simplex: &Simplex, left_out: u8) -> Simplex
     requires place { left_out < length simplex.now }
     requires others { 2 ≤ length simplex.now }
@@ -93,7 +94,7 @@ fn without(simplex: &Simplex, left_out: u8) -> Simplex
     let mut pairs = [(0u8, 0u8); 4];
     let size = simplex.colours() - 1;
     for place in 0..size {
-        pairs[place as usize] = vertex(simplex, skipping(left_out, place));
+        pairs[place as usize] = vertex(simplex, index_before_removal(left_out, place));
     }
     match Simplex::read(&pairs[..size as usize]) {
         Ok(simplex) => simplex,
@@ -101,15 +102,16 @@ fn without(simplex: &Simplex, left_out: u8) -> Simplex
     }
 }
 
-/// Where the item at this place stood before one was left out.
-fn skipping(left_out: u8, place: u8) -> u8
+/// Returns the index that the item at index `place` had before the item at index `left_out` was
+/// removed.
+fn index_before_removal(left_out: u8, place: u8) -> u8
     requires { place < 4 }
     ensures { result ≡ place_before left_out place }
 {
     if place < left_out { place } else { place + 1 }
 }
 
-/// The vertex at a place: a process and its value.
+/// Returns the vertex at `place` of `simplex`: a process and its value.
 fn vertex(simplex: &Simplex, place: u8) -> (u8, u8)
     requires place { place < length simplex.now }
     requires simplex { IsTaskSimplex simplex.now }
@@ -124,11 +126,12 @@ fn vertex(simplex: &Simplex, place: u8) -> (u8, u8)
 
 // ---- JSON values
 
-/// A value that a text shows.
+/// A value that has a form in JSON.
 pub(crate) trait Shown {
     // the JSON value that stands for it
     ghost shown: { Self → Data };
 
+    /// Returns the JSON value that stands for `self`.
     fn to_json(&self, alloc: Global) -> Result<Value, AllocError>
         ensures { IfOk result (λ v. view v ≡ shown self.now) };
 }
@@ -170,7 +173,7 @@ impl Shown for Row {
     }
 }
 
-/// The list of some values.
+/// Returns the JSON array of `values`.
 pub(crate) fn list<T: Shown>(alloc: Global, values: &[T]) -> Result<Value, AllocError>
     ensures { IfOk result (λ v. view v ≡ list_data T.shown values.now) }
 {
@@ -181,7 +184,8 @@ pub(crate) fn list<T: Shown>(alloc: Global, values: &[T]) -> Result<Value, Alloc
     Ok(Value::Array(items))
 }
 
-/// An entry: an input simplex with its tuples.
+/// Returns the JSON object of an entry of `delta`: the input simplex under `in`, and its tuples
+/// under `out`.
 fn entry(alloc: Global, simplex: &Simplex, rows: &[Row]) -> Result<Value, AllocError>
     ensures { IfOk result (λ v. view v ≡ rule_data (rule_of simplex.now rows.now)) }
 {
@@ -191,7 +195,8 @@ fn entry(alloc: Global, simplex: &Simplex, rows: &[Row]) -> Result<Value, AllocE
     Ok(Value::Object(members))
 }
 
-/// The entries of all input simplices.
+/// Returns the JSON array of all entries of `delta`. `tuples` has a list for each simplex of
+/// `inputs`.
 pub(crate) fn entries(
     alloc: Global,
     inputs: &[Simplex],
@@ -208,7 +213,8 @@ pub(crate) fn entries(
     Ok(Value::Array(entries))
 }
 
-/// The version of a task's text.
+/// Returns the version that the text of a task has: 2 if the task names the least size of a first
+/// block, and 1 otherwise.
 fn version_shown(least_block: Option<u8>) -> Value
     ensures { view result ≡ number_data (version_of least_block) }
 {
@@ -218,24 +224,24 @@ fn version_shown(least_block: Option<u8>) -> Value
     }
 }
 
-/// What the text of a task says, key by key.
+/// The parts of a task's canonical text, key by key.
 #[derive(Drop)]
 pub(crate) struct TaskFields {
-    /// How many participants a first block has at least, if the text says so.
+    /// The least number of participants in a first block, if the text has the key `first_block`.
     pub least_block: Option<u8>,
-    /// How many processes there are.
+    /// The number of processes.
     pub processes: u8,
-    /// Whether processes are told apart by rank and not by name.
+    /// Whether processes know one another by rank only, and not by name.
     pub symmetric: bool,
-    /// The facets of the input complex.
+    /// The list of the facets of the input complex.
     pub inputs: Value,
-    /// The facets of the output complex.
+    /// The list of the facets of the output complex.
     pub outputs: Value,
-    /// The entries of the input simplices.
+    /// The list of the entries of `delta`, one for each input simplex.
     pub delta: Value,
 }
 
-/// The value of a task, its keys in alphabetical order.
+/// Returns the JSON object with these `fields`, its keys in alphabetical order.
 pub(crate) fn task_value(alloc: Global, fields: TaskFields) -> Result<Value, AllocError>
     ensures { let f = fields in IfOk result (λ v. view v ≡ keyed f.least_block f.processes
         f.symmetric (view f.inputs) (view f.outputs) (view f.delta)) }
@@ -248,7 +254,7 @@ pub(crate) fn task_value(alloc: Global, fields: TaskFields) -> Result<Value, All
         outputs,
         delta,
     } = fields;
-    // from the last key on, so that each goes in front of those that are there
+    // from the last key to the first, so that each is inserted in front of the keys already there
     let mut members = Map::new(alloc);
     put(&mut members, alloc, "version", version_shown(least_block))?;
     put(&mut members, alloc, "symmetric", Value::Bool(symmetric))?;

@@ -1,19 +1,20 @@
-//! The complexes of a draft, and whether they are within the limits.
+//! The complexes of a draft, and the checks of its sizes.
 
 ghost use Rattle.std.specs.Prelude.{◌≡◌, ◌==◌, ◌<◌, ◌≤◌, All, map, count_by, nat_lt, length, IfOk};
 ghost use Rattle.wf_model.specs.Limits.{most_bytes};
 ghost use Rattle.wf_model.specs.Simplex.{complex_of};
 ghost use Rattle.wf_model.specs.Task.{IsTaskSimplex};
-ghost use Rattle.wf_draft.specs.Draft.{Gives};
-ghost use Rattle.wf_draft.specs.DraftSeen.{draft_seen, pairs_seen, entry_seen};
+ghost use Rattle.wf_task_parse.specs.RawTask.{Gives};
+ghost use Rattle.wf_task_parse.specs.DraftSeen.{draft_seen, pairs_seen, entry_seen};
 ghost use Rattle.wf_task.specs.Judge.{sizes_judged, tuple_total};
 
-use crate::limits::{MOST_INPUTS, MOST_OUTPUTS, MOST_TUPLES, MOST_VERTICES};
+use crate::limits::{MAX_INPUTS, MAX_OUTPUTS, MAX_TUPLES, MAX_VERTICES};
 use std::alloc::{AllocError, Global};
-use wf_draft::{DeltaEntry, Draft, ListedSimplex, TaskFault, TaskLimit};
 use wf_simplex::{Complex, Simplex};
+use wf_task_parse::{DeltaEntry, ListedSimplex, RawTask, TaskFault, TaskLimit};
 
-/// The faces of listed simplices that were judged.
+/// Returns the complex of the simplices in `listed`, whose processes and values must have been
+/// checked.
 pub(crate) fn complex(alloc: Global, listed: &[ListedSimplex]) -> Result<Complex, AllocError>
     requires within { All IsTaskSimplex (map pairs_seen listed.now) }
     requires few { length listed.now ≤ most_bytes }
@@ -26,7 +27,7 @@ pub(crate) fn complex(alloc: Global, listed: &[ListedSimplex]) -> Result<Complex
     Complex::from_facets(alloc, &facets)
 }
 
-/// How many of the simplices are vertices.
+/// Returns the number of vertices among `simplices`.
 fn count_vertices(simplices: &[Simplex]) -> usize
     ensures { result ≡ count_by (λ s. length s == 1) simplices.now }
 {
@@ -36,7 +37,7 @@ fn count_vertices(simplices: &[Simplex]) -> usize
         .count()
 }
 
-/// Whether the entries have more value lists than this.
+/// Returns `true` if all entries of `delta` together have more than `most` value lists.
 fn has_more_tuples(delta: &[DeltaEntry], most: usize) -> bool
     ensures { result ≡ nat_lt most (tuple_total (map entry_seen delta.now)) }
 {
@@ -51,21 +52,26 @@ fn has_more_tuples(delta: &[DeltaEntry], most: usize) -> bool
     false
 }
 
-/// Refusal 8.
+/// Checks that the draft is within the size limits. `inputs` are the simplices of its input
+/// complex.
+///
+/// # Errors
+///
+/// Returns `TooMany` (number 8) with the first limit that the draft exceeds.
 #[tactic(auto, unfolding(crate::specs::Judge::sizes_judged))]
-pub(crate) fn judge_sizes(draft: &Draft, inputs: &[Simplex]) -> Result<(), TaskFault>
+pub(crate) fn judge_sizes(draft: &RawTask, inputs: &[Simplex]) -> Result<(), TaskFault>
     ensures { Gives (λ u. u) result (sizes_judged (draft_seen draft.now) inputs.now) }
 {
-    if count_vertices(inputs) > MOST_VERTICES {
+    if count_vertices(inputs) > MAX_VERTICES {
         return Err(TaskFault::TooMany(TaskLimit::Vertices));
     }
-    if inputs.len() > MOST_INPUTS {
+    if inputs.len() > MAX_INPUTS {
         return Err(TaskFault::TooMany(TaskLimit::Simplices));
     }
-    if draft.outputs.len() > MOST_OUTPUTS {
+    if draft.outputs.len() > MAX_OUTPUTS {
         return Err(TaskFault::TooMany(TaskLimit::Outputs));
     }
-    if has_more_tuples(&draft.delta, MOST_TUPLES) {
+    if has_more_tuples(&draft.delta, MAX_TUPLES) {
         return Err(TaskFault::TooMany(TaskLimit::Tuples));
     }
     Ok(())

@@ -1,12 +1,14 @@
-//! Decision tasks, what texts list judged and kept, and their canonical texts.
+//! Decision tasks: reading and checking their texts, keeping them, and writing their canonical
+//! texts.
 //!
 //! - [`Task`]: input and output simplices, and for each input simplex the tuples that its processes
 //!   may decide. [`Task::read_text`] reads one, or says what is wrong with the text.
-//! - [`TaskFault`]: why a text is no task, with the [`Key`] or the [`TaskLimit`] that it is about.
-//! - [`LONGEST`]: how many bytes a text may have. [`MOST_VERTICES`], [`MOST_INPUTS`],
-//!   [`MOST_OUTPUTS`], [`MOST_TUPLES`]: the other limits.
-//! - [`Row`]: the output values of a tuple, one for each process of an input
-//!   simplex. Copied, five bytes, no memory.
+//! - [`TaskFault`]: why a text is not a task, with the [`Key`] or the [`TaskLimit`] that it is
+//!   about.
+//! - [`MAX_TEXT_BYTES`]: the largest number of bytes in a text. [`MAX_VERTICES`], [`MAX_INPUTS`],
+//!   [`MAX_OUTPUTS`] and [`MAX_TUPLES`]: the other limits.
+//! - [`Row`]: a tuple of output values, one for each process of an input simplex. It is `Copy` and
+//!   takes five bytes.
 #![tactic(auto)]
 
 mod canonical;
@@ -19,7 +21,7 @@ mod slots;
 pub mod task;
 mod tuples;
 
-pub use limits::{MOST_INPUTS, MOST_OUTPUTS, MOST_TUPLES, MOST_VERTICES, texts_have_most_bytes};
+pub use limits::{MAX_INPUTS, MAX_OUTPUTS, MAX_TUPLES, MAX_VERTICES, texts_have_most_bytes};
 pub use row::Row;
-pub use task::{LONGEST, Task};
-pub use wf_draft::{Key, TaskFault, TaskLimit};
+pub use task::{MAX_TEXT_BYTES, Task};
+pub use wf_task_parse::{Key, TaskFault, TaskLimit};

@@ -1,4 +1,4 @@
-//! A tuple of at most four values.
+//! A tuple of at most four values, as an array.
 
 ghost use Rattle.std.specs.Prelude.{◌≡◌, ℕ, ◌<◌, ◌≤◌, All, length, slice_index};
 ghost use Rattle.wf_task.specs.Tuples.{IsRow};
@@ -6,13 +6,13 @@ ghost use Rattle.wf_task.specs.Tuples.{IsRow};
 use std::cmp::Ordering;
 use std::marker::Model;
 
-/// The values of a tuple, by ascending process: one to four, each a `u8`.
+/// The values of a tuple, by ascending process: one to four values from 0 to 255.
 ///
-/// A clause sees it as the list of its values. Rows are ordered as these lists.
+/// Contracts see a row as the list of its values, and rows are ordered as these lists.
 #[derive(Clone, Copy, Debug)]
 pub struct Row {
     size: u8,
-    // the values, and zeros past them
+    // the values, padded with zeros
     values: [u8; 4],
 }
 
@@ -36,7 +36,7 @@ impl Model for Row {
 }
 
 impl Row {
-    /// The row of these values.
+    /// Creates the row of `values`, of which there must be one to four.
     pub fn new(values: &[u8]) -> Row
         requires some { 1 ≤ length values.now }
         requires few { length values.now ≤ 4 }
@@ -52,7 +52,7 @@ impl Row {
         }
     }
 
-    /// The row of these values.
+    /// Creates the row of `values`: one to four values, each at most 255.
     pub(crate) fn of_values(values: &[u64]) -> Row
         requires { IsRow values.now }
         ensures { result ≡ values.now }
@@ -67,7 +67,7 @@ impl Row {
         }
     }
 
-    /// How many values there are.
+    /// Returns the number of values, from 1 to 4.
     pub fn size(&self) -> u8
         ensures count { result ≡ length self.now }
         ensures some { 1 ≤ result }
@@ -77,7 +77,7 @@ impl Row {
         self.size
     }
 
-    /// The value at a place, from 0 on.
+    /// Returns the value at `place`, counted from 0.
     pub fn value(&self, place: u8) -> u8
         requires { place < length self.now }
         ensures { result ≡ slice_index self.now place }
@@ -85,7 +85,7 @@ impl Row {
         self.values[place as usize]
     }
 
-    /// The values as a slice.
+    /// Returns the values as a slice.
     pub fn as_slice(&self) -> &[u8]
         ensures { result.now ≡ self.now }
     {

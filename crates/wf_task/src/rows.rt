@@ -1,23 +1,24 @@
-//! The rows of value lists, and the sets of values of simplices.
+//! The rows of value lists, and the values that occur in simplices.
 
 ghost use Rattle.std.specs.Prelude.{◌≡◌, All, map, flat_map, vec_items, IfOk};
 ghost use Rattle.std.specs.Ordering.{nat_cmp};
 ghost use Rattle.std.specs.Cmp.Lexicographic.{slice_cmp};
 ghost use Rattle.wf_model.specs.Lists.{in_order};
 ghost use Rattle.wf_model.specs.Simplex.{values_of};
-ghost use Rattle.wf_draft.specs.DraftSeen.{entry_seen};
+ghost use Rattle.wf_task_parse.specs.DraftSeen.{entry_seen};
 ghost use Rattle.wf_task.specs.Mask.{HasMore, IsMaskOf};
 ghost use Rattle.wf_task.specs.Tuples.{IsRow, NamesRows, rows_at};
 
 use crate::row::Row;
-use crate::slots::Slot;
+use crate::slots::EntryCount;
 use crate::tuples::lists_at;
 use std::alloc::{AllocError, Global};
-use wf_draft::{DeltaEntry, ValueList};
-use wf_set::{Mask, nothing, with};
+use wf_base::set::{Mask, empty, with};
 use wf_simplex::Simplex;
+use wf_task_parse::{DeltaEntry, ValueList};
 
-/// The rows of value lists: ascending, each once. It takes n log n steps, and five bytes a list.
+/// Returns the rows of `lists` in ascending order, each once. It takes O(n log n) steps, and five
+/// bytes a list.
 fn rows(alloc: Global, lists: &[ValueList]) -> Result<Vec<Row>, AllocError>
     requires { All IsRow (map (λ t. t.items) lists.now) }
     ensures { IfOk result (λ rows. rows.items
@@ -32,11 +33,12 @@ fn rows(alloc: Global, lists: &[ValueList]) -> Result<Vec<Row>, AllocError>
     Ok(rows)
 }
 
-/// The rows of the entry that each slot names.
+/// Returns for each slot the rows of the entry of `delta` that it names. Each slot must name
+/// exactly one.
 pub(crate) fn all_rows(
     alloc: Global,
     delta: &[DeltaEntry],
-    slots: &[Slot],
+    slots: &[EntryCount],
 ) -> Result<Vec<Vec<Row>>, AllocError>
     requires { All (NamesRows (map entry_seen delta.now)) slots.now }
     ensures { IfOk result (λ found. map vec_items found.items
@@ -49,7 +51,7 @@ pub(crate) fn all_rows(
     Ok(found)
 }
 
-/// The set, and the values of a simplex.
+/// Returns `set` with the values of `simplex` added.
 fn with_values(set: Mask, simplex: &Simplex) -> Mask
     ensures { HasMore set (values_of simplex.now) result }
 {
@@ -65,11 +67,11 @@ fn with_values(set: Mask, simplex: &Simplex) -> Mask
     more
 }
 
-/// The values of some simplices.
+/// Returns the set of the values that occur in `simplices`.
 pub(crate) fn mask(simplices: &[Simplex]) -> Mask
     ensures { IsMaskOf result (flat_map values_of simplices.now) }
 {
-    let mut mask = nothing();
+    let mut mask = empty();
     for simplex in simplices {
         let more = with_values(mask, simplex);
         mask = more;

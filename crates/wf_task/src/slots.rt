@@ -1,50 +1,51 @@
-//! Which entry of delta is for which input simplex.
+//! The assignment of the entries of `delta` to input simplices.
 
 ghost use Rattle.std.specs.Prelude.{◌≡◌, ◌≤◌, map, length, IfOk};
 ghost use Rattle.std.specs.List.{position_from};
 ghost use Rattle.wf_model.specs.Limits.{most_bytes, most_inputs};
-ghost use Rattle.wf_draft.specs.Draft.{Gives};
-ghost use Rattle.wf_draft.specs.DraftSeen.{entry_seen, draft_seen};
+ghost use Rattle.wf_task_parse.specs.RawTask.{Gives};
+ghost use Rattle.wf_task_parse.specs.DraftSeen.{entry_seen, draft_seen};
 ghost use Rattle.wf_task.specs.Judge.{entries_judged, first_stray};
 ghost use Rattle.wf_task.specs.Slots.{AreOf, with_entry, no_entry, is_missing, is_twice};
 ghost use Rattle.wf_task.specs.Tuples.{HaveSmallInputs};
 
 use std::alloc::{AllocError, Global};
-use wf_draft::{DeltaEntry, Draft, TaskFault};
 use wf_simplex::{Complex, Simplex};
+use wf_task_parse::{DeltaEntry, RawTask, TaskFault};
 
-/// Which entries an input simplex has.
+/// The entries of `delta` that an input simplex has: `Missing` if it has none.
 #[derive(Clone, Copy, PartialEq, Eq)]
-pub(crate) enum Slot {
+pub(crate) enum EntryCount {
     Missing,
-    /// One, at this place.
+    /// Exactly one entry, at this index of `delta`.
     Once(usize),
-    /// Two or more.
+    /// More than one entry.
     Twice,
 }
 
-impl Slot {
-    /// The slot with one more entry.
-    fn with(self, place: usize) -> Slot
+impl EntryCount {
+    /// Returns the slot after one more entry, at index `place` of `delta`.
+    fn with(self, place: usize) -> EntryCount
         ensures { result ≡ with_entry self place }
     {
         match self {
-            Slot::Missing => Slot::Once(place),
-            Slot::Once(_) | Slot::Twice => Slot::Twice,
+            EntryCount::Missing => EntryCount::Once(place),
+            EntryCount::Once(_) | EntryCount::Twice => EntryCount::Twice,
         }
     }
 }
 
-/// Which entries each input simplex has.
+/// Returns for each input simplex, by its index, which entries of `delta` it has. Entries for other
+/// simplices are skipped.
 pub(crate) fn slots(
     alloc: Global,
     inputs: &Complex,
     delta: &[DeltaEntry],
-) -> Result<Vec<Slot>, AllocError>
+) -> Result<Vec<EntryCount>, AllocError>
     requires { HaveSmallInputs (map entry_seen delta.now) }
     ensures { IfOk result (λ slots. AreOf slots.items (map entry_seen delta.now) inputs.now) }
 {
-    let mut slots = no_entries(alloc, inputs.simplices())?;
+    let mut slots = empty_slots(alloc, inputs.simplices())?;
     for (place, entry) in delta.iter().enumerate() {
         match inputs.index(&Simplex::of_pairs(&entry.input.pairs)) {
             Some(home) => {
@@ -57,47 +58,53 @@ pub(crate) fn slots(
     Ok(slots)
 }
 
-/// The slots of simplices before any entry was looked at.
-fn no_entries(alloc: Global, inputs: &[Simplex]) -> Result<Vec<Slot>, AllocError>
+/// Creates for each input simplex a slot without an entry.
+fn empty_slots(alloc: Global, inputs: &[Simplex]) -> Result<Vec<EntryCount>, AllocError>
     ensures { IfOk result (λ slots. slots.items ≡ map no_entry inputs.now) }
 {
     let mut slots = Vec::new(alloc);
     for _simplex in inputs {
-        slots.push(Slot::Missing)?;
+        slots.push(EntryCount::Missing)?;
     }
     Ok(slots)
 }
 
-/// The number of the first input simplex without an entry.
-fn first_missing(slots: &[Slot]) -> Option<usize>
+/// Returns the index of the first input simplex that has no entry.
+fn first_missing(slots: &[EntryCount]) -> Option<usize>
     ensures { result ≡ position_from is_missing 0 slots.now }
 {
     for (place, slot) in slots.iter().enumerate() {
-        if let Slot::Missing = slot {
+        if let EntryCount::Missing = slot {
             return Some(place);
         }
     }
     None
 }
 
-/// The number of the first input simplex with two entries or more.
-fn first_twice(slots: &[Slot]) -> Option<usize>
+/// Returns the index of the first input simplex that has more than one entry.
+fn first_twice(slots: &[EntryCount]) -> Option<usize>
     ensures { result ≡ position_from is_twice 0 slots.now }
 {
     for (place, slot) in slots.iter().enumerate() {
-        if let Slot::Twice = slot {
+        if let EntryCount::Twice = slot {
             return Some(place);
         }
     }
     None
 }
 
-/// Refusals 9 to 11.
+/// Checks that each input simplex has exactly one entry of `delta`, and that there are no other
+/// entries. `slots` must be those of the draft.
+///
+/// # Errors
+///
+/// Returns the first of `DeltaMissing`, `DeltaTwice` and `DeltaStray` (numbers 9 to 11) that
+/// applies.
 #[tactic(auto, unfolding(crate::specs::Judge::entries_judged))]
 pub(crate) fn judge_entries(
-    draft: &Draft,
+    draft: &RawTask,
     inputs: &Complex,
-    slots: &[Slot],
+    slots: &[EntryCount],
 ) -> Result<(), TaskFault>
     requires within { HaveSmallInputs (map entry_seen draft.now.delta.items) }
     requires slots { AreOf slots.now (map entry_seen draft.now.delta.items) inputs.now }
@@ -120,7 +127,7 @@ pub(crate) fn judge_entries(
     Ok(())
 }
 
-/// The place of the first entry that is for no input simplex.
+/// Returns the index of the first entry of `delta` whose simplex is not in `inputs`.
 pub(crate) fn first_stray(inputs: &Complex, delta: &[DeltaEntry]) -> Option<usize>
     requires { HaveSmallInputs (map entry_seen delta.now) }
     ensures { result ≡ first_stray inputs.now (map entry_seen delta.now) }

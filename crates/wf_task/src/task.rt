@@ -1,17 +1,17 @@
-//! Decision tasks.
+//! Decision tasks: reading them from a text, with all checks, and writing their canonical text.
 
 ghost use Rattle.std.specs.Prelude.{◌≡◌, ◌<◌, ◌≤◌, length, map, true, Some, None, Ok, IfOk, OnOk, vec_items};
 ghost use Rattle.wf_model.specs.Simplex.{complex_of};
 ghost use Rattle.wf_model.specs.Task.{IsTask, first_block, inputs, values};
 ghost use Rattle.serde_json.specs.View.{view};
 ghost use Rattle.wf_task.specs.Canonical.{HasFewFacets, IsListable, canonical_text, task_data, version_of};
-ghost use Rattle.wf_set.specs.Sets.{values_in};
-ghost use Rattle.wf_draft.specs.Draft.{Gives};
-ghost use Rattle.wf_draft.specs.DraftSeen.{draft_seen, pairs_seen, entry_seen};
+ghost use Rattle.wf_base.specs.Set.Sets.{values_in};
+ghost use Rattle.wf_task_parse.specs.RawTask.{Gives};
+ghost use Rattle.wf_task_parse.specs.DraftSeen.{draft_seen, pairs_seen, entry_seen};
 ghost use Rattle.wf_task.specs.Judge.{is_first_block, judged, drafted, task_of_text};
 ghost use Rattle.wf_task.specs.Slots.{AreOf};
 ghost use Rattle.wf_task.specs.TaskSeen.{task_of_parts, tuples_at};
-ghost use Rattle.wf_draft.specs.Listed.{ListsVertices, ListsFew};
+ghost use Rattle.wf_task_parse.specs.Listed.{ListsVertices, ListsFew};
 ghost use Rattle.wf_task.specs.Faultless.{IsFaultless};
 
 use crate::canonical::{TaskFields, entries, facets, list, task_value};
@@ -19,32 +19,35 @@ use crate::complexes::{complex, judge_sizes};
 use crate::judge::{judge_first_block, judge_numbers};
 use crate::row::Row;
 use crate::rows::{all_rows, mask};
-use crate::slots::{Slot, judge_entries, slots};
+use crate::slots::{EntryCount, judge_entries, slots};
 use crate::tuples::judge_tuples;
 use serde_json::Value;
 use std::alloc::{AllocError, Global};
 use std::marker::Model;
-use wf_draft::{Draft, TaskFault, draft_in};
-use wf_set::Mask;
+use wf_base::set::Mask;
 use wf_simplex::Complex;
+use wf_task_parse::{RawTask, TaskFault, draft_in};
 
-/// The most bytes that a text may have, a task's or a report's: 16 MiB.
-pub const LONGEST: usize = 16_777_216;
+/// The largest number of bytes in a text, of a task or of a report: 16 MiB.
+pub const MAX_TEXT_BYTES: usize = 16_777_216;
 
 /// A decision task (Herlihy and Shavit 1999): input simplices, output simplices, and for each input
-/// simplex the output tuples on its processes.
+/// simplex the tuples of output values that its processes may decide.
+///
+/// A task is valid by construction: its inputs and outputs are complexes, each tuple is an output
+/// simplex on the processes of its input simplex, and the numbers of processes, inputs and tuples
+/// and the values are within the limits of task texts.
 #[derive(Drop)]
 pub struct Task {
     processes: u8,
     symmetric: bool,
     inputs: Complex,
     outputs: Complex,
-    // the tuples of each input simplex, in the order of the inputs
+    // the tuples of each input simplex, in the order of `inputs`
     tuples: Vec<Vec<Row>>,
-    // those that occur in the outputs
+    // the values that occur in `outputs`
     values: Mask,
-    // how many participants the first block of a word has at least; none
-    // where all words are allowed
+    // the least number of participants in a first block; `None` if all words are allowed
     least_block: Option<u8>,
 }
 
@@ -61,19 +64,25 @@ impl Model for Task {
 }
 
 impl Task {
-    /// The task of a text, or the first fault of the text.
+    /// Reads and checks the text of a task.
+    ///
+    /// # Errors
+    ///
+    /// Returns the first fault of the text, in the order in which [`TaskFault`] numbers the checks,
+    /// or `OutOfMemory` if memory runs out.
     #[tactic(auto, unfolding(crate::specs::Judge::task_of_text, crate::specs::Judge::task_of_json))]
     pub fn read_text(alloc: Global, bytes: &[u8]) -> Result<Task, TaskFault>
         ensures { Gives (λ t. t) result (task_of_text bytes.now) }
     {
-        if bytes.len() > LONGEST {
+        if bytes.len() > MAX_TEXT_BYTES {
             return Err(TaskFault::TooLong);
         }
         let draft = draft_in(alloc, bytes)?;
         judge(alloc, &draft)
     }
 
-    /// The task of these parts, the tuples of each input simplex in the order of the inputs.
+    /// Creates a task from its parts, which must be those of a valid task. `tuples` has the tuples
+    /// of each input simplex, in the order of `inputs`. The task allows all words in each round.
     pub fn of_parts(
         processes: u8,
         symmetric: bool,
@@ -99,9 +108,13 @@ impl Task {
         }
     }
 
-    /// The canonical text: compact JSON with its keys in alphabetical order, the facets of the
-    /// input and the output complex in order, and an entry for each input simplex in order, its
-    /// tuples ascending. Reading it gives the same task.
+    /// Returns the canonical text: compact JSON with its keys in alphabetical order, the facets of
+    /// the input and the output complex in order, and an entry for each input simplex in order,
+    /// with its tuples ascending. Reading the text gives the same task.
+    ///
+    /// # Errors
+    ///
+    /// Returns `AllocError` if memory runs out.
     #[tactic(auto, unfolding(crate::specs::Canonical::canonical_text), using(crate::proofs::Written::task_has_no_float))]
     pub fn write_text(&self, alloc: Global) -> Result<Vec<u8>, AllocError>
         ensures text { IfOk result (λ text. text.items ≡ canonical_text self.now) }
@@ -111,7 +124,7 @@ impl Task {
         Ok(text.into_bytes())
     }
 
-    /// The JSON value of the canonical text.
+    /// Returns the JSON value of the canonical text.
     fn value(&self, alloc: Global) -> Result<Value, AllocError>
         ensures value { IfOk result (λ v. view v ≡ task_data self.now) }
         ensures listable { OnOk result (IsListable self.now) }
@@ -130,7 +143,7 @@ impl Task {
         task_value(alloc, fields)
     }
 
-    /// How many processes there are.
+    /// Returns the number of processes, from 1 to 4.
     pub fn processes(&self) -> u8
         ensures processes { result ≡ self.now.processes }
         ensures task { IsTask self.now }
@@ -138,16 +151,16 @@ impl Task {
         self.processes
     }
 
-    /// Whether processes are told apart by their rank among those that they
-    /// know of, and not by name.
+    /// Returns whether the task is symmetric: processes know one another by their rank among those
+    /// that they have seen, and not by name.
     pub fn symmetric(&self) -> bool
         ensures { result ≡ self.now.symmetric }
     {
         self.symmetric
     }
 
-    /// How many participants the first block of a word has at least, or all
-    /// where they are fewer: 1 allows all words.
+    /// Returns the least number of participants in the first block of a word. Words with fewer
+    /// participants have all of them in it. 1 means that all words are allowed.
     pub fn first_block(&self) -> u8
         ensures first_block { result ≡ first_block self.now }
         ensures some { 1 ≤ result }
@@ -156,7 +169,8 @@ impl Task {
         self.least_block.unwrap_or(1)
     }
 
-    /// The version of its texts: 1 where all words are allowed, 2 where they name the first block.
+    /// Returns the version of the task's texts: 1 if all words are allowed, and 2 if they name the
+    /// least size of a first block.
     pub fn version(&self) -> u8
         ensures { result ≡ version_of self.now.least_block }
     {
@@ -166,7 +180,7 @@ impl Task {
         }
     }
 
-    /// The input complex.
+    /// Returns the input complex.
     pub fn inputs(&self) -> &Complex
         ensures inputs { result.now ≡ inputs self.now }
         ensures task { IsTask self.now }
@@ -174,14 +188,14 @@ impl Task {
         &self.inputs
     }
 
-    /// The output complex.
+    /// Returns the output complex.
     pub fn outputs(&self) -> &Complex
         ensures { result.now ≡ self.now.outputs }
     {
         &self.outputs
     }
 
-    /// The tuples of an input simplex, by its place in the input complex: ascending, each once.
+    /// Returns the tuples of the input simplex with index `simplex`, in ascending order, each once.
     pub fn tuples(&self, simplex: u32) -> &[Row]
         requires { simplex < length self.now.delta }
         ensures { tuples_at self.now simplex ≡ Some result.now }
@@ -191,7 +205,7 @@ impl Task {
         tuples[place].as_slice()
     }
 
-    /// The values that occur in the output complex.
+    /// Returns the set of the values that occur in the output complex.
     pub fn values(&self) -> Mask
         ensures values { values_in result ≡ values self.now }
     {
@@ -199,9 +213,13 @@ impl Task {
     }
 }
 
-/// The task that a draft lists, or its first fault.
+/// Checks `draft`, and creates its task.
+///
+/// # Errors
+///
+/// Returns the first fault, in the order in which [`TaskFault`] numbers the checks.
 #[tactic(auto, unfolding(crate::specs::Judge::judged))]
-fn judge(alloc: Global, draft: &Draft) -> Result<Task, TaskFault>
+fn judge(alloc: Global, draft: &RawTask) -> Result<Task, TaskFault>
     requires vertices { ListsVertices (draft_seen draft.now) }
     requires few { ListsFew (draft_seen draft.now) }
     ensures { Gives (λ t. t) result (judged (draft_seen draft.now)) }
@@ -220,8 +238,8 @@ fn judge(alloc: Global, draft: &Draft) -> Result<Task, TaskFault>
     Ok(task_of_draft(alloc, draft, inputs, outputs, &slots)?)
 }
 
-/// The number of participants, in eight bits.
-fn narrow(least_block: Option<u64>) -> Option<u8>
+/// Converts the least size of a first block, which must be from 1 to 4 if present, to eight bits.
+fn to_u8(least_block: Option<u64>) -> Option<u8>
     requires { is_first_block least_block ≡ true }
     ensures { result ≡ least_block }
 {
@@ -231,13 +249,14 @@ fn narrow(least_block: Option<u64>) -> Option<u8>
     }
 }
 
-/// The task that a draft without a fault lists.
+/// Creates the task of a draft that has passed all checks. `inputs` and `outputs` must be its
+/// complexes, and `slots` the entries of its input simplices.
 fn task_of_draft(
     alloc: Global,
-    draft: &Draft,
+    draft: &RawTask,
     inputs: Complex,
     outputs: Complex,
-    slots: &[Slot],
+    slots: &[EntryCount],
 ) -> Result<Task, AllocError>
     requires faultless { IsFaultless (draft_seen draft.now) }
     requires inputs { inputs ≡ complex_of (map pairs_seen draft.now.inputs.items) }
@@ -254,6 +273,6 @@ fn task_of_draft(
         outputs,
         tuples,
         values,
-        least_block: narrow(draft.least_block),
+        least_block: to_u8(draft.least_block),
     })
 }

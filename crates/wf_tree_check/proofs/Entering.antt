@@ -2,19 +2,19 @@
 use Rattle.std.proofs.Common.{◌≡◌, ℕ, suc, ◌<◌, ◌≤◌, nat_lt, not, Bool, true, false, cond, List, ◌∷◌, length, Option, None, Some, Err, sym, ap, ◌∙◌, arith}
 use Rattle.std.proofs.lemmas.Bool.{le-ltb, lt-ltb}
 use Rattle.wf_model.specs.Task.{Task, Tuple, inputs}
-use Rattle.wf_counting.specs.Rules.{rule_at}
-use Rattle.wf_trees.specs.Cases.{components}
-use Rattle.wf_trees.specs.Covers.{Covering, covered}
-use Rattle.wf_trees.specs.Splits.{Splitting, by_stars, split}
-use Rattle.wf_trees.specs.Trees.{Move, Node, by_sheets, case_node, cover_node, new_name, split_node}
-use Rattle.wf_refine.specs.AtHand.{IsAtHand, at_hand}
-use Rattle.wf_refine.specs.Limits.{split_fault}
-use Rattle.wf_refine.specs.declared.fault.RefineFault.{RefineFault}
-use Rattle.wf_refine.specs.declared.fault.RefineFault.TheVariants as refine
-use Rattle.wf_refine.proofs.Lemmas.{length-rules_seen}
-use Rattle.wf_cover.specs.Faults.{cover_fault}
-use Rattle.wf_cover.specs.Limits.{sheets_fault}
-use Rattle.wf_cover.specs.declared.cover.CoverFault.{CoverFault}
+use Rattle.wf_tree_model.specs.Counting.Rules.{rule_at}
+use Rattle.wf_tree_model.specs.Cases.{components}
+use Rattle.wf_tree_model.specs.Covers.{Covering, covered}
+use Rattle.wf_tree_model.specs.Splits.{Splitting, by_stars, split}
+use Rattle.wf_tree_model.specs.Trees.{Move, Node, by_sheets, case_node, cover_node, new_name, split_node}
+use Rattle.wf_tree_refine.specs.AtHand.{IsAtHand, at_hand}
+use Rattle.wf_tree_refine.specs.Limits.{split_fault}
+use Rattle.wf_tree_refine.specs.declared.fault.RefineFault.{RefineFault}
+use Rattle.wf_tree_refine.specs.declared.fault.RefineFault.TheVariants as refine
+use Rattle.wf_tree_refine.proofs.Lemmas.{length-rules_seen}
+use Rattle.wf_tree_steps.specs.Cover.Faults.{cover_fault}
+use Rattle.wf_tree_steps.specs.Cover.Limits.{sheets_fault}
+use Rattle.wf_tree_steps.specs.declared.cover.cover.CoverFault.{CoverFault}
 use Rattle.wf_tree_check.specs.Judge.{Judged, judged}
 use Rattle.wf_tree_check.specs.Limits.{limit_of}
 use Rattle.wf_tree_check.specs.Walk.{IsEntered, cases_judged, fault_at}

@@ -2,21 +2,21 @@
 use Rattle.std.proofs.Common.{◌≡◌, ℕ, zero, suc, ◌==◌, nat_lt, not, Bool, true, false, cond, List, [], ◌∷◌, ◌++◌, length, Option, None, Some, Ok, Err, ◌⊎◌, inl, inr, refl, sym, ap, ◌∙◌, subst, append_assoc, append-nil}
 use Rattle.std.proofs.lemmas.Bool.{eq-eqb, eqb-true, lt-ltb, ltb-true}
 use Rattle.wf_model.specs.Task.{Rule, Task, Tuple, first_block}
-use Rattle.wf_counting.specs.Rules.{rule_at}
-use Rattle.wf_counting.proofs.Lemmas.{listed_rule}
-use Rattle.wf_trees.specs.Cases.{components, in_case}
-use Rattle.wf_trees.specs.Covers.{Covering, covered}
-use Rattle.wf_trees.specs.Splits.{Splitting, by_stars, split}
-use Rattle.wf_trees.specs.Trees.{AreTrees, IsObstruction, IsTree, Move, Node, Tree, Trees, balance, balance_node, by_cases, by_cover, by_sheets, by_split, case_node, cover_node, new_name, no_tree, nodes_of, nodes_of_each, split_node, tree_before}
-use Rattle.wf_balance.specs.Judge.{balance_fault}
-use Rattle.wf_balance.specs.declared.fault.BalanceFault.{BalanceFault}
-use Rattle.wf_balance.proofs.Lemmas.{exact}
-use Rattle.wf_cover.specs.declared.cover.CoverFault.{CoverFault}
-use Rattle.wf_refine.specs.Limits.{split_fault}
-use Rattle.wf_refine.specs.declared.fault.RefineFault.{RefineFault}
-use Rattle.wf_cover.specs.Faults.{cover_fault}
-use Rattle.wf_cover.specs.Limits.{sheets_fault}
-use Rattle.wf_cover.proofs.Lemmas.{exact as exact_cover}
+use Rattle.wf_tree_model.specs.Counting.Rules.{rule_at}
+use Rattle.wf_tree_model.proofs.OfCounting.Lemmas.{listed_rule}
+use Rattle.wf_tree_model.specs.Cases.{components, in_case}
+use Rattle.wf_tree_model.specs.Covers.{Covering, covered}
+use Rattle.wf_tree_model.specs.Splits.{Splitting, by_stars, split}
+use Rattle.wf_tree_model.specs.Trees.{AreTrees, IsObstruction, IsTree, Move, Node, Tree, Trees, balance, balance_node, by_cases, by_cover, by_sheets, by_split, case_node, cover_node, new_name, no_tree, nodes_of, nodes_of_each, split_node, tree_before}
+use Rattle.wf_tree_steps.specs.Balance.Judge.{balance_fault}
+use Rattle.wf_tree_steps.specs.declared.balance.fault.BalanceFault.{BalanceFault}
+use Rattle.wf_tree_steps.proofs.OfBalance.Lemmas.{exact}
+use Rattle.wf_tree_steps.specs.declared.cover.cover.CoverFault.{CoverFault}
+use Rattle.wf_tree_refine.specs.Limits.{split_fault}
+use Rattle.wf_tree_refine.specs.declared.fault.RefineFault.{RefineFault}
+use Rattle.wf_tree_steps.specs.Cover.Faults.{cover_fault}
+use Rattle.wf_tree_steps.specs.Cover.Limits.{sheets_fault}
+use Rattle.wf_tree_steps.proofs.OfCover.Lemmas.{exact as exact_cover}
 use Rattle.wf_tree_check.specs.Judge.{Judged, each_judged, ended, fault_of, judged}
 use Rattle.wf_tree_check.specs.Limits.{limit_of, most_levels, most_nodes}
 use Rattle.wf_tree_check.specs.declared.fault.Limit.{Limit}

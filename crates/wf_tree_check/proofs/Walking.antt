@@ -3,10 +3,10 @@ use Rattle.std.proofs.Common.{◌≡◌, ℕ, zero, suc, ◌+◌, ◌-◌, ◌<�
 use Rattle.std.proofs.lemmas.Bool.{eq-eqb, le-ltb, ltb-true}
 use Rattle.std.proofs.lemmas.List.{at_drop_more, drop_all, drop_more, get_or-map, length-map}
 use Rattle.wf_model.specs.Task.{Task, Tuple, first_block}
-use Rattle.wf_counting.specs.Rules.{rule_at}
-use Rattle.wf_trees.specs.Cases.{in_case}
-use Rattle.wf_trees.specs.Trees.{Node, balance_node, case_node, cover_node, split_node}
-use Rattle.wf_refine.specs.AtHand.{at_hand}
+use Rattle.wf_tree_model.specs.Counting.Rules.{rule_at}
+use Rattle.wf_tree_model.specs.Cases.{in_case}
+use Rattle.wf_tree_model.specs.Trees.{Node, balance_node, case_node, cover_node, split_node}
+use Rattle.wf_tree_refine.specs.AtHand.{at_hand}
 use Rattle.wf_tree_text.specs.Seen.{node_seen, nodes_seen}
 use Rattle.wf_tree_text.specs.declared.obstruction.TreeNode as code_node
 use Rattle.wf_tree_check.specs.Judge.{Judged, Judges, ended, fault_of, judged}

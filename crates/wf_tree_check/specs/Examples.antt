@@ -1,11 +1,11 @@
 -- Worked examples, by computation: what the checker answers of the hourglass.
 use Rattle.std.specs.Prelude.{◌≡◌, List, [], ◌∷◌, ◌++◌, drop, replicate, take, None, Some, refl}
 use Rattle.wf_model.specs.ExampleTasks.{renaming_2_2}
-use Rattle.wf_trees.specs.KnownResults.{hourglass, hourglass_by_cases, hourglass_tree}
-use Rattle.wf_trees.specs.Trees.{Node, case_node, cover_node, nodes_of, split_node}
-use Rattle.wf_balance.specs.declared.fault.BalanceFault.TheVariants.{NotBalanced}
+use Rattle.wf_tree_model.specs.KnownResults.{hourglass, hourglass_by_cases, hourglass_tree}
+use Rattle.wf_tree_model.specs.Trees.{Node, case_node, cover_node, nodes_of, split_node}
+use Rattle.wf_tree_steps.specs.declared.balance.fault.BalanceFault.TheVariants.{NotBalanced}
 use Rattle.wf_tree_check.specs.Judge.{fault_of}
-use Rattle.wf_cover.specs.declared.cover.CoverFault.TheVariants.{NoCorner, NoSheet, OneParticipant}
+use Rattle.wf_tree_steps.specs.declared.cover.cover.CoverFault.TheVariants.{NoCorner, NoSheet, OneParticipant}
 use Rattle.wf_tree_check.specs.declared.fault.Limit.TheVariants.{Depth, Names}
 use Rattle.wf_tree_check.specs.declared.fault.TreeFault.TheVariants.{Behind, NoBalance, NoCover, NoNode, NoSimplex, Symmetric, TooLarge}
 

@@ -1,15 +1,15 @@
 -- What the checker answers: the first reason why nodes are no obstruction.
 use Rattle.std.specs.Prelude.{◌≡◌, ℕ, zero, suc, ◌==◌, nat_lt, not, List, [], ◌∷◌, length, Option, None, Some, Result, Ok, Err, if◌then◌else◌}
 use Rattle.wf_model.specs.Task.{Task, Tuple, first_block}
-use Rattle.wf_counting.specs.Rules.{rule_at}
-use Rattle.wf_trees.specs.Cases.{components, in_case}
-use Rattle.wf_trees.specs.Covers.{covered}
-use Rattle.wf_trees.specs.Splits.{by_stars, split}
-use Rattle.wf_trees.specs.Trees.{Node, balance_node, by_sheets, case_node, cover_node, new_name, split_node}
-use Rattle.wf_refine.specs.Limits.{split_fault}
-use Rattle.wf_balance.specs.Judge.{balance_fault}
-use Rattle.wf_cover.specs.Faults.{cover_fault}
-use Rattle.wf_cover.specs.Limits.{sheets_fault}
+use Rattle.wf_tree_model.specs.Counting.Rules.{rule_at}
+use Rattle.wf_tree_model.specs.Cases.{components, in_case}
+use Rattle.wf_tree_model.specs.Covers.{covered}
+use Rattle.wf_tree_model.specs.Splits.{by_stars, split}
+use Rattle.wf_tree_model.specs.Trees.{Node, balance_node, by_sheets, case_node, cover_node, new_name, split_node}
+use Rattle.wf_tree_refine.specs.Limits.{split_fault}
+use Rattle.wf_tree_steps.specs.Balance.Judge.{balance_fault}
+use Rattle.wf_tree_steps.specs.Cover.Faults.{cover_fault}
+use Rattle.wf_tree_steps.specs.Cover.Limits.{sheets_fault}
 use Rattle.wf_tree_check.specs.Limits.{limit_of, most_levels, most_nodes}
 use Rattle.wf_tree_check.specs.declared.fault.Limit.TheVariants.{Depth, Nodes}
 use Rattle.wf_tree_check.specs.declared.fault.TreeFault.{TreeFault}

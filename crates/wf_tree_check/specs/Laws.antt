@@ -1,7 +1,7 @@
 -- Why what the checker accepts is an obstruction, and what it refuses is none.
 use Rattle.std.specs.Prelude.{◌≡◌, ℕ, List, None, Some}
 use Rattle.wf_model.specs.Task.{Task}
-use Rattle.wf_trees.specs.Trees.{IsObstruction, Node, Tree, nodes_of}
+use Rattle.wf_tree_model.specs.Trees.{IsObstruction, Node, Tree, nodes_of}
 use Rattle.wf_tree_check.specs.Judge.{fault_of}
 use Rattle.wf_tree_check.specs.declared.fault.Limit.{Limit}
 use Rattle.wf_tree_check.specs.declared.fault.TreeFault.{TreeFault}

@@ -1,7 +1,7 @@
 -- What the checker follows at most.
 use Rattle.std.specs.Prelude.{ℕ}
-use Rattle.wf_refine.specs.declared.fault.RefineFault.{RefineFault}
-use Rattle.wf_refine.specs.declared.fault.RefineFault.TheVariants.{TooManyNames}
+use Rattle.wf_tree_refine.specs.declared.fault.RefineFault.{RefineFault}
+use Rattle.wf_tree_refine.specs.declared.fault.RefineFault.TheVariants.{TooManyNames}
 use Rattle.wf_tree_check.specs.declared.fault.Limit.{Limit}
 use Rattle.wf_tree_check.specs.declared.fault.Limit.TheVariants.{Names, Tuples}
 

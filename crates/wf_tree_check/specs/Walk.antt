@@ -1,12 +1,12 @@
 -- How the checker goes from node to node: what is left to judge below a node, and what comes of it.
 use Rattle.std.specs.Prelude.{◌≡◌, ◌<◌, ℕ, suc, List, drop, length, map, vec_items, Result, Ok, Err}
 use Rattle.wf_model.specs.Task.{Task, Tuple}
-use Rattle.wf_counting.specs.Rules.{rule_at}
-use Rattle.wf_trees.specs.Cases.{components, in_case}
-use Rattle.wf_trees.specs.Trees.{Node, balance_node}
-use Rattle.wf_refine.specs.AtHand.{IsAtHand, at_hand}
-use Rattle.wf_refine.specs.declared.fault.RefineFault.{RefineFault}
-use Rattle.wf_refine.specs.declared.fault.RefineFault.TheVariants as refine
+use Rattle.wf_tree_model.specs.Counting.Rules.{rule_at}
+use Rattle.wf_tree_model.specs.Cases.{components, in_case}
+use Rattle.wf_tree_model.specs.Trees.{Node, balance_node}
+use Rattle.wf_tree_refine.specs.AtHand.{IsAtHand, at_hand}
+use Rattle.wf_tree_refine.specs.declared.fault.RefineFault.{RefineFault}
+use Rattle.wf_tree_refine.specs.declared.fault.RefineFault.TheVariants as refine
 use Rattle.wf_tree_check.specs.Limits.{limit_of}
 use Rattle.wf_tree_check.specs.Judge.{Judged, each_judged, judged}
 use Rattle.wf_tree_check.specs.declared.enter.Entered.{Entered}

@@ -1,55 +1,56 @@
-//! One node: what it is, and what is left to judge below it.
+//! The check of one node: whether it fits its task, and what remains to be checked below it.
 
 ghost use Rattle.std.specs.Prelude.{◌≡◌, ◌<◌, ◌+◌, ◌-◌, ℕ, suc, List, ◌∷◌, IfOk, OnOk, drop, length, map, vec_items};
-ghost use Rattle.wf_trees.specs.Trees.{Node, balance_node, case_node, cover_node, split_node};
-ghost use Rattle.wf_balance.specs.Multipliers.{multipliers_seen};
-ghost use Rattle.wf_cover.specs.Faults.{moves_seen};
-ghost use Rattle.wf_refine.specs.AtHand.{IsAtHand, at_hand};
+ghost use Rattle.wf_tree_model.specs.Trees.{Node, balance_node, case_node, cover_node, split_node};
+ghost use Rattle.wf_tree_steps.specs.Balance.Multipliers.{multipliers_seen};
+ghost use Rattle.wf_tree_steps.specs.Cover.Faults.{moves_seen};
+ghost use Rattle.wf_tree_refine.specs.AtHand.{IsAtHand, at_hand};
 ghost use Rattle.wf_tree_text.specs.Seen.{node_seen, nodes_seen};
 ghost use Rattle.wf_tree_check.specs.Judge.{judged};
 ghost use Rattle.wf_tree_check.specs.Walk.{HasLevels, IsEntered, fault_at, levels_of};
 
 use crate::fault::{Limit, TreeFault};
 use std::alloc::Global;
-use wf_balance::{Balance, BalanceFault, is_balance};
-use wf_cover::{Covering, cover_fault, covered_rows};
-use wf_refine::{RefineFault, count_components, split_rows};
 use wf_task::{Row, Task};
+use wf_tree_refine::{RefineFault, count_components, split_rows};
+use wf_tree_steps::balance::{Balance, BalanceFault, is_balance};
+use wf_tree_steps::cover::{Covering, cover_fault, covered_rows};
 use wf_tree_text::TreeNode;
 
-/// What is judged: the nodes of a tree, in preorder, of a task.
+/// The input of a check: the nodes of a tree, and the task.
 #[derive(Drop)]
 pub(crate) struct Walk<'a> {
-    /// What memory comes from.
+    /// The allocator.
     pub alloc: Global,
-    /// The task.
+    /// The task that was read.
     pub task: &'a Task,
-    /// All nodes.
+    /// All nodes of the tree, in preorder.
     pub nodes: &'a [TreeNode],
 }
 
-/// The parts of what the task at hand allows on a simplex.
+/// The cases of a simplex.
 #[derive(Drop)]
 pub(crate) struct Cases {
-    /// The number of the simplex.
+    /// The index of the simplex.
     pub simplex: usize,
-    /// How many parts there are.
+    /// The number of cases: one for each connected component of the simplex's tuples.
     pub count: u32,
 }
 
-/// What is left to judge below a node.
+/// What remains to be checked below a node.
 #[derive(Drop)]
 pub(crate) enum Entered {
-    /// Nothing: the node is a balance.
+    /// Nothing: the node is a balance, which is a leaf.
     Leaf,
-    /// A tree of this task at hand.
+    /// One subtree, for the task with the tuples in this list.
     One(Vec<Vec<Row>>),
-    /// A tree for each of these parts.
+    /// One subtree for each of the cases.
     Each(Cases),
 }
 
-/// Judges the node of a place alone. So many nodes with others below them may stand above one
-/// another from there on.
+/// Checks the node at index `place` for the task with the tuples `rows`, without its subtrees, and
+/// returns what remains to be checked below it. `levels` limits how many nodes with subtrees may
+/// lie on a path down from here.
 pub(crate) fn enter(
     walk: &Walk<'_>,
     rows: &[Vec<Row>],
@@ -80,7 +81,8 @@ pub(crate) fn enter(
     }
 }
 
-/// How many levels a node takes: a balance none, and another one, since trees stand below it.
+/// Returns how many levels `node` uses: 0 for a balance, which has no subtree, and 1 for other
+/// nodes.
 fn levels_of(node: &TreeNode) -> u32
     ensures { result ≡ levels_of (node_seen node.now) }
 {
@@ -90,7 +92,8 @@ fn levels_of(node: &TreeNode) -> u32
     }
 }
 
-/// Judges a balance.
+/// Checks that `balance` is a balance of the task with the tuples `rows`. `place` is the index of
+/// the node.
 fn enter_balance(
     walk: &Walk<'_>,
     rows: &[Vec<Row>],
@@ -115,7 +118,8 @@ fn enter_balance(
     }
 }
 
-/// Counts the cases of a simplex.
+/// Counts the cases of `simplex`, for the case node at index `place`. Fails if the task has no such
+/// simplex.
 fn enter_case(
     walk: &Walk<'_>,
     rows: &[Vec<Row>],
@@ -134,7 +138,8 @@ fn enter_case(
     Ok(Entered::Each(Cases { simplex, count }))
 }
 
-/// Takes the values of a simplex apart.
+/// Splits `simplex`, for the split node at index `place`. Fails if the task is symmetric, has no
+/// such simplex, or the split is above a limit.
 fn enter_split(
     walk: &Walk<'_>,
     rows: &[Vec<Row>],
@@ -159,7 +164,8 @@ fn enter_split(
     }
 }
 
-/// Puts the values of a simplex on the sheets of a cover.
+/// Checks `cover` and lifts the tuples to its sheets, for the cover node at index `place`. Fails if
+/// the task is symmetric or has no such simplex, or if the cover is not valid or above a limit.
 fn enter_cover(
     walk: &Walk<'_>,
     rows: &[Vec<Row>],
@@ -189,7 +195,7 @@ fn enter_cover(
     }
 }
 
-/// Why a step at this node is refused.
+/// Returns the fault of a split or cover that was refused at `node`.
 fn fault_at(node: u64, fault: RefineFault) -> TreeFault
     ensures { result ≡ fault_at node fault }
 {

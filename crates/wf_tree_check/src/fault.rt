@@ -1,69 +1,72 @@
-//! Why nodes are no obstruction.
+//! The faults for which nodes are not an obstruction.
 
 ghost use Rattle.std.specs.Prelude.{◌≡◌};
 ghost use Rattle.wf_tree_check.specs.declared.fault.TreeFault.TheVariants.{OutOfMemory};
 
 use std::alloc::AllocError;
-use wf_balance::BalanceFault;
-use wf_cover::CoverFault;
+use wf_tree_steps::balance::BalanceFault;
+use wf_tree_steps::cover::CoverFault;
 
-/// A limit of the checker. Above it nodes are refused, whether or not they are an obstruction.
+/// A limit of the check. Nodes above it are refused, whether they are an obstruction or not.
 #[derive(Clone, Copy, Debug, PartialEq, Eq)]
 pub enum Limit {
-    /// More nodes than the checker judges.
+    /// There are more than [`MAX_NODES`](crate::MAX_NODES) nodes.
     Nodes,
-    /// More nodes above one another than the checker follows.
+    /// More than [`MAX_LEVELS`](crate::MAX_LEVELS) nodes with subtrees lie on one path of the
+    /// tree.
     Depth,
-    /// A split or a cover needs a name of a value above 255.
+    /// A split or a cover needs a name above 255.
     Names,
-    /// A split or a cover makes more tuples than a task at hand may have.
+    /// A split or a cover makes more tuples than a task may have during the check.
     Tuples,
 }
 
-/// Why nodes are no obstruction. A node is named by its place in the list, from 0 on.
+/// The reasons for which nodes are not an obstruction of a task. Nodes are named by their index in
+/// the list.
 #[derive(Clone, Copy, Debug, PartialEq, Eq)]
 pub enum TreeFault {
-    /// The first block of a word of the task has more than one participant.
+    /// The task has a first block of more than one participant. Obstructions are only for tasks
+    /// without one.
     FirstBlock,
-    /// The list ends where a tree has to begin. The place is the number of nodes.
+    /// The list of nodes ends where a tree has to begin.
     NoNode {
-        /// The place of the node that is missing.
+        /// The number of nodes, which is the index of the missing one.
         node: u64,
     },
-    /// This node stands behind the end of the tree.
+    /// There are nodes after the end of the tree.
     Behind {
-        /// The place of the node.
+        /// The index of the first of them.
         node: u64,
     },
-    /// The task has no input simplex of the number that this node names.
+    /// The task has no input simplex with the index that this node names.
     NoSimplex {
-        /// The place of the node.
+        /// The index of the node.
         node: u64,
     },
-    /// A split or a cover of a symmetric task.
+    /// This node is a split or a cover, and the task is symmetric.
     Symmetric {
-        /// The place of the node.
+        /// The index of the node.
         node: u64,
     },
-    /// This cover is none.
+    /// This node is a cover that is not valid.
     NoCover {
-        /// The place of the node.
+        /// The index of the node.
         node: u64,
-        /// Why the cover is none.
+        /// Why the cover is not valid.
         fault: CoverFault,
     },
-    /// This balance is none.
+    /// The multipliers of this node are not a balance.
     NoBalance {
-        /// The place of the node.
+        /// The index of the node.
         node: u64,
-        /// Why the balance is none.
+        /// Why they are not a balance.
         fault: BalanceFault,
     },
-    /// This node is above a limit of the checker.
+    /// This node is above a limit of the check.
     TooLarge {
-        /// The place of the node.
+        /// The index of the node.
         node: u64,
-        /// Which limit.
+        /// The limit.
         limit: Limit,
     },
     /// Memory ran out.

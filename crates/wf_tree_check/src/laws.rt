@@ -1,13 +1,14 @@
-//! Laws of what the checker answers.
+//! The laws of the check's result.
 
 ghost use Rattle.wf_tree_check.specs.Laws.{WhatIsAcceptedIsAnObstruction, WhatIsRefusedIsNone};
 
-/// Nodes without a fault are those of an obstruction.
+/// States that nodes without a fault are the nodes of an obstruction of the task.
 pub fn what_is_accepted_is_an_obstruction()
     ensures { WhatIsAcceptedIsAnObstruction }
 {}
 
-/// Nodes with a fault that is no limit are those of no obstruction.
+/// States that nodes with a fault, other than a limit, are not the nodes of an obstruction of the
+/// task.
 pub fn what_is_refused_is_none()
     ensures { WhatIsRefusedIsNone }
 {}

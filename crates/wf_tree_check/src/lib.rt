@@ -1,12 +1,11 @@
-//! The checker of obstructions: trees of cases, splits and covers whose leaves are balances, given
-//! by their nodes in preorder.
+//! The check of obstructions: trees of cases, splits and covers whose leaves are balances, given by
+//! their nodes in preorder.
 //!
-//! - [`is_obstruction`]: the checker, which accepts an obstruction and nothing else.
-//! - [`TreeFault`]: why nodes are no obstruction, or above a limit. [`Limit`]: a limit of the
-//!   checker. [`MOST_NODES`], [`MOST_LEVELS`]: how many nodes, and how many above one another.
-//!
-//! `specs/Judge` says which fault is the first. The laws say that nodes without a fault are those
-//! of an obstruction, and that nodes with a fault, unless it is a limit, are those of none.
+//! - [`is_obstruction`]: the check. It accepts nothing but obstructions.
+//! - [`TreeFault`]: why nodes are refused; `specs/Judge` defines which fault is the first.
+//!   [`Limit`], [`MAX_NODES`], [`MAX_LEVELS`]: the limits of the check.
+//! - [`what_is_accepted_is_an_obstruction`], [`what_is_refused_is_none`]: laws; there is nothing to
+//!   call.
 #![tactic(auto)]
 
 mod enter;
@@ -15,5 +14,5 @@ mod judge;
 mod laws;
 
 pub use fault::{Limit, TreeFault};
-pub use judge::{MOST_LEVELS, MOST_NODES, is_obstruction};
+pub use judge::{MAX_LEVELS, MAX_NODES, is_obstruction};
 pub use laws::{what_is_accepted_is_an_obstruction, what_is_refused_is_none};

@@ -2,7 +2,7 @@
 use Rattle.std.proofs.Common.{◌≡◌, ℕ, zero, suc, ◌+◌, ◌-◌, List, [], ◌∷◌, length, map, Bool, true, false, Option, Some, option_map, refl, sym, ◌∙◌, ap, arith, slice_set, slice_index_or, IfOk, Result}
 use Rattle.std.proofs.lemmas.Result.{IfOk-weaker}
 use Rattle.std.specs.List.{slice_get}
-use Rattle.wf_trees.specs.Trees.{Node}
+use Rattle.wf_tree_model.specs.Trees.{Node}
 use Rattle.wf_tree_text.specs.Seen.{node_seen, nodes_seen}
 use Rattle.wf_tree_text.specs.Steps.{changed}
 use Rattle.wf_tree_text.specs.Text.{at_last, is_smaller, may_follow}

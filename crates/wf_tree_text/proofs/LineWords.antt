@@ -6,8 +6,8 @@ use Rattle.std.proofs.lemmas.Bool.{and_parts, le-leb, lt-ltb, ltb-true}
 use Rattle.std.proofs.lemmas.List.Elements.{All-from_recursion, recursion_from_All}
 use Rattle.wf_model.specs.Limits.{most_number}
 use Rattle.wf_model.specs.Report.{line, same_text}
-use Rattle.wf_trees.specs.Balance.{Multiplier}
-use Rattle.wf_trees.specs.Trees.{Move}
+use Rattle.wf_tree_model.specs.Balance.{Multiplier}
+use Rattle.wf_tree_model.specs.Trees.{Move}
 use Rattle.wf_report.specs.Reading.{lacks}
 use Rattle.wf_report.proofs.Lemmas.{when_true}
 use Rattle.wf_tree_text.specs.Laws.{IsMoveWithin, IsMultiplierWithin}

@@ -5,8 +5,8 @@ use Rattle.std.proofs.lemmas.List.{map-append}
 use Rattle.std.proofs.lemmas.Grind.{flat_map-append}
 use Rattle.wf_model.specs.Report.{words_of}
 use Rattle.wf_model.proofs.Lemmas.{some_of}
-use Rattle.wf_trees.specs.Balance.{Multiplier}
-use Rattle.wf_trees.specs.Trees.{Move, Node, balance_node, case_node, cover_node, split_node}
+use Rattle.wf_tree_model.specs.Balance.{Multiplier}
+use Rattle.wf_tree_model.specs.Trees.{Move, Node, balance_node, case_node, cover_node, split_node}
 use Rattle.wf_report.proofs.Lemmas.{when_true}
 use Rattle.wf_tree_text.specs.Text.{TextLine, at_last, balance_at, case_at, cover_at, line_of_words, lines_of_node, lines_of_nodes, may_follow, move_at, move_key, multiplier_at, multiplier_key, split_at, with_line, with_move, with_multiplier}
 use Rattle.wf_tree_text.specs.Steps.{next_in}

@@ -2,7 +2,7 @@
 use Rattle.std.proofs.Common.{◌≡◌, ℕ, suc, ◌+◌, ◌==◌, ◌++◌, List, [], ◌∷◌, length, Bool, true, false, cond, Option, Some, None, Ok, Err, codes, ⊎_elim, refl, ◌∙◌, ap, arith, eqb-true}
 use Rattle.std.specs.Option.{option_and_then}
 use Rattle.wf_model.specs.Report.{Reading, line, lines_of, same_text}
-use Rattle.wf_trees.specs.Trees.{Node}
+use Rattle.wf_tree_model.specs.Trees.{Node}
 use Rattle.wf_report.specs.Reading.{lacks}
 use Rattle.wf_report.specs.Steps.{words}
 use Rattle.wf_report.proofs.Lemmas.{last_piece, lines_cut, no_words, not_ended, one_word, same_ended, some_line, words_cut, words_ended}

@@ -8,8 +8,8 @@ use Rattle.std.proofs.lemmas.List.Elements.{All-from_recursion, recursion_from_A
 use Rattle.wf_model.specs.Limits.{most_number}
 use Rattle.wf_model.specs.Report.{fixed_at, line, lines_of, number_at, number_upto, numbers_text, same_text, words_of}
 use Rattle.wf_model.proofs.Lemmas.{some_of}
-use Rattle.wf_trees.specs.Balance.{Multiplier}
-use Rattle.wf_trees.specs.Trees.{Move, Node, balance_node, case_node, cover_node, split_node}
+use Rattle.wf_tree_model.specs.Balance.{Multiplier}
+use Rattle.wf_tree_model.specs.Trees.{Move, Node, balance_node, case_node, cover_node, split_node}
 use Rattle.wf_report.proofs.Lemmas.{fixed_there, joined, number_found, spelt, text_by_words, then_ok, when_true, words_text}
 use Rattle.wf_tree_text.specs.Text.{Obstruction, TextLine, at_last, balance_at, case_at, cover_at, end_at, first_line, line_of_numbers, line_of_words, line_text, lines_of_nodes, may_follow, move_at, move_key, multiplier_at, multiplier_key, nodes_from, numbers_of_words, obstruction_of, obstruction_text, split_at, with_line, with_move, with_multiplier}
 use Rattle.wf_tree_text.specs.Laws.{Ascend, IsBalanceWithin, IsCoverWithin, IsInGrammar, IsMoveWithin, IsMultiplierWithin, IsNodeWithin}

@@ -6,8 +6,8 @@ use Rattle.std.specs.List.{AllByRecursion}
 use Rattle.std.proofs.lemmas.List.Elements.{recursion_from_All}
 use Rattle.wf_model.specs.Limits.{most_number}
 use Rattle.wf_model.specs.Report.{fixed_at, line, lines_of, number_at, then_read}
-use Rattle.wf_trees.specs.Balance.{Multiplier}
-use Rattle.wf_trees.specs.Trees.{Move, Node, balance_node, case_node, cover_node, split_node}
+use Rattle.wf_tree_model.specs.Balance.{Multiplier}
+use Rattle.wf_tree_model.specs.Trees.{Move, Node, balance_node, case_node, cover_node, split_node}
 use Rattle.wf_report.proofs.Lemmas.{is_line, number_read, number_there, words_are}
 use Rattle.wf_tree_text.specs.Text.{Obstruction, TextLine, at_last, end_at, first_line, line_of_numbers, line_of_words, line_text, lines_of_node, lines_of_nodes, may_follow, move_at, move_key, multiplier_at, multiplier_key, name_of, nodes_from, numbers_of, numbers_of_words, obstruction_of, obstruction_text, with_line, with_move, with_multiplier}
 use Rattle.wf_tree_text.specs.Laws.{Ascend, IsInGrammar, IsMoveWithin, IsMultiplierWithin, IsNodeWithin}

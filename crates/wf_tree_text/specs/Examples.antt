@@ -2,8 +2,8 @@
 use Rattle.std.specs.Prelude.{◌≡◌, ℕ, List, [], ◌∷◌, ◌++◌, Ok, Err, codes, refl}
 use Rattle.std.specs.Fmt.{digits}
 use Rattle.wf_model.specs.Report.{Reading}
-use Rattle.wf_trees.specs.Balance.{Multiplier}
-use Rattle.wf_trees.specs.Trees.{Move, Node, balance_node, case_node, cover_node, split_node}
+use Rattle.wf_tree_model.specs.Balance.{Multiplier}
+use Rattle.wf_tree_model.specs.Trees.{Move, Node, balance_node, case_node, cover_node, split_node}
 use Rattle.wf_tree_text.specs.Text.{Obstruction, line_of, obstruction_of, obstruction_text}
 
 -- these nodes, for three processes and seven simplices

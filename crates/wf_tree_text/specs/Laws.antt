@@ -1,8 +1,8 @@
 -- Laws of the texts of obstructions.
 use Rattle.std.specs.Prelude.{◌≡◌, ◌≤◌, ◌<◌, ℕ, true, List, [], ◌∷◌, All, length, Ok}
 use Rattle.wf_model.specs.Limits.{most_number, most_processes, most_value}
-use Rattle.wf_trees.specs.Balance.{Multiplier}
-use Rattle.wf_trees.specs.Trees.{Move, Node, balance_node, case_node, cover_node, split_node}
+use Rattle.wf_tree_model.specs.Balance.{Multiplier}
+use Rattle.wf_tree_model.specs.Trees.{Move, Node, balance_node, case_node, cover_node, split_node}
 use Rattle.wf_tree_text.specs.Text.{Obstruction, is_smaller, most_byte, move_key, multiplier_key, obstruction_of, obstruction_text}
 
 abbrev pub Ascend : {X : Type 0} → (X → List ℕ) → List X → Type 0

@@ -3,9 +3,9 @@ use Rattle.std.specs.Prelude.{◌≡◌, ◌≤◌, ◌<◌, ℕ, List, length, 
 use Rattle.wf_model.specs.Limits.{most_bytes}
 use Rattle.wf_report.specs.declared.fault.CertFault.{CertFault}
 use Rattle.wf_report.specs.declared.fault.CertFault.TheVariants.{TooLong, Syntax, OutOfMemory}
-use Rattle.wf_trees.specs.Trees.{Node, balance_node, case_node, cover_node, split_node}
-use Rattle.wf_balance.specs.Multipliers.{multipliers_seen}
-use Rattle.wf_cover.specs.Faults.{moves_seen}
+use Rattle.wf_tree_model.specs.Trees.{Node, balance_node, case_node, cover_node, split_node}
+use Rattle.wf_tree_steps.specs.Balance.Multipliers.{multipliers_seen}
+use Rattle.wf_tree_steps.specs.Cover.Faults.{moves_seen}
 use Rattle.wf_tree_text.specs.Text.{Obstruction, obstruction_of}
 use Rattle.wf_tree_text.specs.declared.obstruction.TreeNode as code_node
 use Rattle.wf_tree_text.specs.declared.obstruction.TreeNode.TheVariants as node

@@ -1,9 +1,9 @@
 -- One line more: what it says, and what the nodes become.
 use Rattle.std.specs.Prelude.{ℕ, Bool, List, Option, Some, None, option_and_then, if◌then◌else◌}
 use Rattle.wf_model.specs.Report.{words_of}
-use Rattle.wf_trees.specs.Trees.{Node}
-use Rattle.wf_balance.specs.Multipliers.{multiplier_seen}
-use Rattle.wf_cover.specs.Faults.{move_seen}
+use Rattle.wf_tree_model.specs.Trees.{Node}
+use Rattle.wf_tree_steps.specs.Balance.Multipliers.{multiplier_seen}
+use Rattle.wf_tree_steps.specs.Cover.Faults.{move_seen}
 use Rattle.wf_tree_text.specs.Text.{TextLine, balance_at, case_at, cover_at, line_of_words, move_at, multiplier_at, split_at, with_line}
 use Rattle.wf_tree_text.specs.declared.line.NodeLine as code
 use Rattle.wf_tree_text.specs.declared.line.NodeLine.TheVariants as line

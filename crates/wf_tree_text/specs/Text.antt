@@ -5,8 +5,8 @@ use Rattle.std.specs.Ordering.{match_ordering, nat_cmp}
 use Rattle.std.specs.Cmp.Lexicographic.{slice_cmp}
 use Rattle.wf_model.specs.Limits.{most_number, most_processes, most_value}
 use Rattle.wf_model.specs.Report.{Reading, fixed_at, line, lines_of, number_at, number_upto, same_text, then_read, words_of}
-use Rattle.wf_trees.specs.Balance.{Multiplier}
-use Rattle.wf_trees.specs.Trees.{Move, Node, balance_node, case_node, cover_node, split_node}
+use Rattle.wf_tree_model.specs.Balance.{Multiplier}
+use Rattle.wf_tree_model.specs.Trees.{Move, Node, balance_node, case_node, cover_node, split_node}
 
 -- the numbers of a task, and the nodes of a tree in preorder
 pub record Obstruction : Type 0 where

@@ -1,12 +1,13 @@
-//! The texts of obstructions, written and read.
+//! The text format of obstructions: reading and writing.
 //!
-//! - [`Obstruction`]: what a text lists, by its [`TreeNode`]s in preorder.
+//! - [`Obstruction`]: what a text lists, with its [`TreeNode`]s in preorder.
 //! - [`write_obstruction`], [`read_obstruction`]: from an obstruction to its text, and back.
-//! - [`is_obstruction_text`]: whether the first line of a text is [`FIRST_LINE`].
-//! - [`line_of`]: the line of a node, of a move or of a multiplier.
+//! - [`is_obstruction_text`]: whether a text begins with [`FIRST_LINE`].
+//! - [`line_of`]: the line number of a node, or of one of its moves or multipliers.
 //!
-//! The laws say that the text of an obstruction in the grammar is read as that obstruction, and
-//! that what is read as an obstruction is its text.
+//! By the laws, each obstruction in the grammar has exactly one text, and is read from it
+//! unchanged. Reading checks the form only; `wf_tree_check` decides whether the tree is an
+//! obstruction of a task.
 #![tactic(auto)]
 
 mod front;

@@ -1,40 +1,41 @@
-//! What one line says.
+//! The meaning of one line, from its name and its numbers.
 
 ghost use Rattle.std.specs.Prelude.{◌≡◌, IfOk, Some, option_map, None, if◌then◌else◌, vec_items};
 ghost use Rattle.wf_tree_text.specs.Steps.{line_seen};
 ghost use Rattle.wf_tree_text.specs.Text.{are_others, are_sheets, balance_of, case_of, cover_of, goes_over, is_cover, line_of_numbers, move_of, multiplier_of, node_line_of, split_of};
 
 use std::alloc::{AllocError, Global};
-use wf_balance::{Multiplier, Others};
-use wf_cover::Move;
+use wf_tree_steps::balance::{Multiplier, Others};
+use wf_tree_steps::cover::Move;
 
-/// The largest value.
+/// The largest value that a process may decide.
 const LARGEST: u32 = 255;
 
-/// The last place of a simplex.
+/// The last 0-based place of a simplex of four processes.
 const LAST_PLACE: u32 = 3;
 
-/// The most sheets of a cover, and its greatest corner.
-const MOST_BYTE: u32 = 255;
+/// The largest number of sheets of a cover, and the largest corner: both are stored as a byte.
+const MAX_BYTE: u32 = 255;
 
-/// A line of a node: its own, or that of a move or a multiplier.
+/// A parsed line: the first line of a node, or a move or multiplier that belongs to one.
 #[derive(Drop, Debug)]
 pub(crate) enum NodeLine {
-    /// The line of a case.
+    /// A case, with the index of its simplex.
     Case(u32),
-    /// The line of a split.
+    /// A split, with the index of its simplex.
     Split(u32),
-    /// The line of a cover: the simplex, how many sheets there are, and the corner.
+    /// A cover, with the index of its simplex, the number of sheets and the corner.
     Cover(u32, u8, u8),
-    /// The line of a move.
+    /// A move of a cover.
     Move(Move),
-    /// The line of a balance: the modulus and the sum.
+    /// A balance, with its modulus and sum.
     Balance(u32, u32),
-    /// The line of a multiplier.
+    /// A multiplier of a balance.
     Multiplier(Multiplier),
 }
 
-/// The line of this name and these numbers, if there is one.
+/// Parses the line that begins with the word `name` and goes on with `numbers`. Returns `None` if
+/// there is no such line.
 pub(crate) fn line_of_numbers(
     alloc: Global,
     name: &[u8],
@@ -52,7 +53,8 @@ pub(crate) fn line_of_numbers(
     Ok(node_line_of(name, numbers))
 }
 
-/// The line of a node.
+/// Parses the first line of a node. Returns `None` if `name` is not the name of a node or the
+/// numbers do not fit it.
 fn node_line_of(name: &[u8], numbers: &[u32]) -> Option<NodeLine>
     ensures { option_map line_seen result ≡ node_line_of name.now numbers.now }
 {
@@ -71,7 +73,8 @@ fn node_line_of(name: &[u8], numbers: &[u32]) -> Option<NodeLine>
     None
 }
 
-/// The line of a case.
+/// Parses the numbers of a case: the index of a simplex. Returns `None` if there are more or fewer
+/// numbers.
 fn case_of(numbers: &[u32]) -> Option<NodeLine>
     ensures { option_map line_seen result ≡ case_of numbers.now }
 {
@@ -81,7 +84,8 @@ fn case_of(numbers: &[u32]) -> Option<NodeLine>
     }
 }
 
-/// The line of a split.
+/// Parses the numbers of a split: the index of a simplex. Returns `None` if there are more or fewer
+/// numbers.
 fn split_of(numbers: &[u32]) -> Option<NodeLine>
     ensures { option_map line_seen result ≡ split_of numbers.now }
 {
@@ -91,7 +95,8 @@ fn split_of(numbers: &[u32]) -> Option<NodeLine>
     }
 }
 
-/// The line of a cover.
+/// Parses the numbers of a cover: the index of a simplex, the number of sheets and the corner.
+/// Returns `None` if they do not fit.
 fn cover_of(numbers: &[u32]) -> Option<NodeLine>
     ensures { option_map line_seen result ≡ cover_of numbers.now }
 {
@@ -103,14 +108,15 @@ fn cover_of(numbers: &[u32]) -> Option<NodeLine>
     }
 }
 
-/// Whether a cover may have so many sheets and this corner.
+/// Returns whether `sheets` and `corner` fit into a byte, and there is a sheet.
 fn is_cover(sheets: u32, corner: u32) -> bool
     ensures { result ≡ is_cover sheets corner }
 {
-    0 < sheets && sheets <= MOST_BYTE && corner <= MOST_BYTE
+    0 < sheets && sheets <= MAX_BYTE && corner <= MAX_BYTE
 }
 
-/// The line of a balance.
+/// Parses the numbers of a balance: its modulus and its sum. Returns `None` if there are more or
+/// fewer numbers.
 fn balance_of(numbers: &[u32]) -> Option<NodeLine>
     ensures { option_map line_seen result ≡ balance_of numbers.now }
 {
@@ -120,7 +126,8 @@ fn balance_of(numbers: &[u32]) -> Option<NodeLine>
     }
 }
 
-/// The line of a multiplier.
+/// Parses the numbers of a multiplier: its weight, the index of a simplex, a place, and the values
+/// of the other participants. Returns `None` if they do not fit.
 fn multiplier_of(numbers: &[u32]) -> Option<NodeLine>
     ensures { option_map line_seen result ≡ multiplier_of numbers.now }
 {
@@ -141,7 +148,8 @@ fn multiplier_of(numbers: &[u32]) -> Option<NodeLine>
     }))
 }
 
-/// A value for each of at most three others.
+/// Returns `numbers` as the values of the other participants, or `None` if there are more than
+/// three of them or one is above 255.
 fn others_of(numbers: &[u32]) -> Option<Others>
     ensures { result ≡ (if are_others numbers.now then Some numbers.now else None) }
 {
@@ -158,14 +166,15 @@ fn others_of(numbers: &[u32]) -> Option<Others>
     Some(Others::new(&values[..numbers.len()]))
 }
 
-/// The line of a move.
+/// Parses the numbers of a move: a place and its value, a later place and its value, and a list of
+/// sheets. Returns `None` if they do not fit.
 fn move_of(alloc: Global, numbers: &[u32]) -> Result<Option<NodeLine>, AllocError>
     ensures { IfOk result (λ line. option_map line_seen line ≡ move_of numbers.now) }
 {
     let [first, value, second, other, sheets @ ..] = numbers else {
         return Ok(None);
     };
-    if !goes_over(*first, *value, *second, *other) {
+    if !fits_move(*first, *value, *second, *other) {
         return Ok(None);
     }
     let Some(sheets) = sheets_of(alloc, sheets)? else {
@@ -180,19 +189,21 @@ fn move_of(alloc: Global, numbers: &[u32]) -> Result<Option<NodeLine>, AllocErro
     })))
 }
 
-/// Whether these are a place and a value, and a later place and a value.
-fn goes_over(first: u32, value: u32, second: u32, other: u32) -> bool
+/// Returns whether `first` and `second` are places in ascending order, and `value` and `other` are
+/// at most 255.
+fn fits_move(first: u32, value: u32, second: u32, other: u32) -> bool
     ensures { result ≡ goes_over first value second other }
 {
     first < second && second <= LAST_PLACE && value <= LARGEST && other <= LARGEST
 }
 
-/// Sheets, each below their number.
+/// Returns `numbers` as the sheets of a move, or `None` if a number is not less than the length of
+/// the list, or the list is longer than 255.
 fn sheets_of(alloc: Global, numbers: &[u32]) -> Result<Option<Vec<u8>>, AllocError>
     ensures { IfOk result (λ sheets. option_map vec_items sheets
         ≡ (if are_sheets numbers.now then Some numbers.now else None)) }
 {
-    if numbers.len() > MOST_BYTE as usize {
+    if numbers.len() > MAX_BYTE as usize {
         return Ok(None);
     }
     let mut sheets = Vec::with_capacity(alloc, numbers.len())?;

@@ -1,8 +1,8 @@
-//! Nodes, line by line.
+//! Nodes, collected line by line.
 
 ghost use Rattle.std.specs.Prelude.{◌≡◌, IfOk};
-ghost use Rattle.wf_balance.specs.Multipliers.{multiplier_seen, multipliers_seen};
-ghost use Rattle.wf_cover.specs.Faults.{move_seen, moves_seen};
+ghost use Rattle.wf_tree_steps.specs.Balance.Multipliers.{multiplier_seen, multipliers_seen};
+ghost use Rattle.wf_tree_steps.specs.Cover.Faults.{move_seen, moves_seen};
 ghost use Rattle.wf_tree_text.specs.Seen.{node_seen, nodes_seen};
 ghost use Rattle.wf_tree_text.specs.Steps.{changed, line_seen};
 ghost use Rattle.wf_tree_text.specs.Text.{at_last, is_smaller, may_follow, move_key, multiplier_key, with_line, with_move, with_multiplier};
@@ -11,10 +11,11 @@ use crate::line::NodeLine;
 use crate::obstruction::TreeNode;
 use std::alloc::{AllocError, Global};
 use std::cmp::Ordering;
-use wf_balance::{Balance, Multiplier};
-use wf_cover::{Covering, Move};
+use wf_tree_steps::balance::{Balance, Multiplier};
+use wf_tree_steps::cover::{Covering, Move};
 
-/// Adds a line to the nodes if it may stand behind them, and answers whether it may.
+/// Adds `line` to the nodes: as a new node, or as a move or multiplier of the last node. Returns
+/// `false`, and leaves the nodes unchanged, if the line must not come here.
 pub(crate) fn add_line(
     alloc: Global,
     nodes: &mut Vec<TreeNode>,
@@ -44,7 +45,8 @@ pub(crate) fn add_line(
     Ok(true)
 }
 
-/// Adds a multiplier to the last node, if that is a balance and the multiplier may follow there.
+/// Adds `next` to the last node. Returns `false` if that is not a balance, or its last multiplier
+/// is not smaller than `next`.
 fn add_multiplier(nodes: &mut Vec<TreeNode>, next: Multiplier) -> Result<bool, AllocError>
     ensures { IfOk result (λ added. changed added (nodes_seen nodes.new.items)
         ≡ at_last (with_multiplier (multiplier_seen next)) (nodes_seen nodes.old.items)) }
@@ -55,7 +57,8 @@ fn add_multiplier(nodes: &mut Vec<TreeNode>, next: Multiplier) -> Result<bool, A
     }
 }
 
-/// Adds a multiplier to a balance, if it may follow there.
+/// Adds `next` to `node`. Returns `false` if the node is not a balance, or its last multiplier is
+/// not smaller than `next`.
 fn put_multiplier(node: &mut TreeNode, next: Multiplier) -> Result<bool, AllocError>
     ensures { IfOk result (λ added. changed added (node_seen node.new)
         ≡ with_multiplier (multiplier_seen next) (node_seen node.old)) }
@@ -70,7 +73,8 @@ fn put_multiplier(node: &mut TreeNode, next: Multiplier) -> Result<bool, AllocEr
     Ok(true)
 }
 
-/// Adds a move to the last node, if that is a cover and the move may follow there.
+/// Adds `next` to the last node. Returns `false` if that is not a cover with as many sheets, or its
+/// last move is not smaller than `next`.
 fn add_move(nodes: &mut Vec<TreeNode>, next: Move) -> Result<bool, AllocError>
     ensures { IfOk result (λ added. changed added (nodes_seen nodes.new.items)
         ≡ at_last (with_move (move_seen next)) (nodes_seen nodes.old.items)) }
@@ -81,7 +85,8 @@ fn add_move(nodes: &mut Vec<TreeNode>, next: Move) -> Result<bool, AllocError>
     }
 }
 
-/// Adds a move to a cover, if it has as many sheets and may follow there.
+/// Adds `next` to `node`. Returns `false` if the node is not a cover with as many sheets, or its
+/// last move is not smaller than `next`.
 fn put_move(node: &mut TreeNode, next: Move) -> Result<bool, AllocError>
     ensures { IfOk result (λ added. changed added (node_seen node.new)
         ≡ with_move (move_seen next) (node_seen node.old)) }
@@ -96,7 +101,8 @@ fn put_move(node: &mut TreeNode, next: Move) -> Result<bool, AllocError>
     Ok(true)
 }
 
-/// Whether the last of the multipliers, if there is one, is smaller.
+/// Returns whether `next` may come after `multipliers`: whether the last of them, if there is one,
+/// is smaller.
 fn may_follow_multipliers(multipliers: &[Multiplier], next: &Multiplier) -> bool
     ensures { result
         ≡ may_follow multiplier_key (multipliers_seen multipliers.now) (multiplier_seen next.now) }
@@ -107,7 +113,8 @@ fn may_follow_multipliers(multipliers: &[Multiplier], next: &Multiplier) -> bool
     }
 }
 
-/// Whether the first multiplier stands before the second: by simplex, place and values.
+/// Returns whether `last` comes before `next` in the order of multipliers: by simplex, then by
+/// place, then by values.
 fn is_smaller_multiplier(last: &Multiplier, next: &Multiplier) -> bool
     ensures { let key = multiplier_key (multiplier_seen last.now) in
         result ≡ is_smaller key (multiplier_key (multiplier_seen next.now)) }
@@ -118,7 +125,8 @@ fn is_smaller_multiplier(last: &Multiplier, next: &Multiplier) -> bool
     by_simplex.then(by_place).then(by_values) == Ordering::Less
 }
 
-/// Whether the last of the moves, if there is one, is smaller.
+/// Returns whether `next` may come after `moves`: whether the last of them, if there is one, is
+/// smaller.
 fn may_follow_moves(moves: &[Move], next: &Move) -> bool
     ensures { result ≡ may_follow move_key (moves_seen moves.now) (move_seen next.now) }
 {
@@ -128,7 +136,8 @@ fn may_follow_moves(moves: &[Move], next: &Move) -> bool
     }
 }
 
-/// Whether the first move stands before the second: by places and values.
+/// Returns whether `last` comes before `next` in the order of moves: by the first place and its
+/// value, then by the second place and its value.
 fn is_smaller_move(last: &Move, next: &Move) -> bool
     ensures { result ≡ is_smaller (move_key (move_seen last.now)) (move_key (move_seen next.now)) }
 {

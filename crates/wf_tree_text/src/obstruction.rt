@@ -1,34 +1,36 @@
-//! Obstructions as their texts list them.
+//! Obstructions in the form in which their texts list them.
 
-use wf_balance::Balance;
-use wf_cover::Covering;
+use wf_tree_steps::balance::Balance;
+use wf_tree_steps::cover::Covering;
 
-/// What the text of an obstruction lists. A checker says whether it is one.
+/// An obstruction as its text lists it. Whether it is one of a given task is for `wf_tree_check` to
+/// decide.
 #[derive(Drop, Debug)]
 pub struct Obstruction {
-    /// How many processes the task has.
+    /// The number of processes of the task.
     pub processes: u32,
-    /// How many simplices its input complex has.
+    /// The number of simplices of the task's input complex.
     pub simplices: u32,
-    /// The nodes of a tree in preorder: each before those of the trees below it.
+    /// The nodes of the tree in preorder: each node comes before its subtrees.
     pub nodes: Vec<TreeNode>,
 }
 
-/// A node of a tree, without the trees below it.
+/// A node of a tree, without its subtrees.
 #[derive(Drop, Debug)]
 pub enum TreeNode {
-    /// A tree follows for each part of what the task allows on a simplex.
+    /// A case. It has a subtree for each connected component of the tuples that the task allows on
+    /// the simplex.
     Case {
-        /// The number of the simplex.
+        /// The index of the simplex in the input complex.
         simplex: u32,
     },
-    /// A tree follows for the task with the values of a simplex taken apart.
+    /// A split. It has one subtree, for the task after the split of the simplex.
     Split {
-        /// The number of the simplex.
+        /// The index of the simplex in the input complex.
         simplex: u32,
     },
-    /// A tree follows for a cover of a simplex.
+    /// A cover of a simplex. It has one subtree, for the task with values on the sheets.
     Cover(Covering),
-    /// A balance, which no tree follows.
+    /// A balance. It is a leaf.
     Balance(Balance),
 }

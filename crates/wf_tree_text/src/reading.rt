@@ -1,4 +1,4 @@
-//! Reading the text of an obstruction, line by line.
+//! The reader of an obstruction's text.
 
 ghost use Rattle.std.specs.Prelude.{◌≡◌, ◌+◌, ◌≤◌, ◌++◌, ◌∷◌, [], true, IfOk, length};
 ghost use Rattle.wf_model.specs.Report.{lines_of};
@@ -13,21 +13,28 @@ use crate::nodes::add_line;
 use crate::numbers::read_numbers;
 use crate::obstruction::{Obstruction, TreeNode};
 use std::alloc::{AllocError, Global};
-use wf_report::{CertFault, cut};
-use wf_task::LONGEST;
+use wf_report::{CertFault, split_once};
+use wf_task::MAX_TEXT_BYTES;
 
-/// The number of the first line behind the three in front.
-pub(crate) const FIRST_BEHIND: u32 = 4;
+/// The line number of the first node.
+pub(crate) const FIRST_NODE_LINE: u32 = 4;
 
-/// The obstruction of a text. A text of more than 16,777,216 bytes is refused as `TooLong` before
-/// it is looked at. Of any other text that is none of an obstruction, `Syntax` says the number of
-/// the first bad line, from 1 on. `OutOfMemory` says nothing of the text. The nodes have few enough
-/// lines for [`crate::line_of`].
+/// Reads an obstruction from its text.
+///
+/// The nodes that it returns have few enough lines for [`line_of`](crate::line_of).
+///
+/// # Errors
+///
+/// - [`CertFault::TooLong`]: the text has more than 16,777,216 bytes. It is not read then.
+/// - [`CertFault::Syntax`]: the text is not that of an obstruction; the number is that of the first
+///   wrong line, from 1 on.
+/// - [`CertFault::OutOfMemory`]: memory ran out.
 pub fn read_obstruction(alloc: Global, text: &[u8]) -> Result<Obstruction, CertFault>
     ensures read { IsRead result text.now }
-    ensures few { IfOk result (λ o. length (lines_of_nodes (nodes_seen o.nodes.items)) ≤ LONGEST) }
+    ensures few { IfOk result (λ o.
+        length (lines_of_nodes (nodes_seen o.nodes.items)) ≤ MAX_TEXT_BYTES) }
 {
-    if text.len() > LONGEST {
+    if text.len() > MAX_TEXT_BYTES {
         return Err(CertFault::TooLong);
     }
     let rest = read_first(text)?;
@@ -41,9 +48,9 @@ pub fn read_obstruction(alloc: Global, text: &[u8]) -> Result<Obstruction, CertF
     })
 }
 
-/// The nodes of the lines up to the end of the text.
+/// Reads the lines of the nodes and the line `end`, which has to be the last one.
 fn read_nodes(alloc: Global, text: &[u8]) -> Result<Vec<TreeNode>, CertFault>
-    requires { length text.now ≤ LONGEST }
+    requires { length text.now ≤ MAX_TEXT_BYTES }
     ensures nodes { let read = nodes_from first_line [] (lines_of text.now) in
         Gives (λ nodes. nodes_seen nodes.items) result read }
     ensures few { IfOk result (λ nodes.
@@ -52,13 +59,13 @@ fn read_nodes(alloc: Global, text: &[u8]) -> Result<Vec<TreeNode>, CertFault>
     let mut nodes = Vec::new(alloc);
     let mut numbers = Vec::new(alloc);
     let mut rest = text;
-    let mut at = FIRST_BEHIND;
-    'lines: while let Some((found, others)) = cut(rest, b'\n') {
+    let mut at = FIRST_NODE_LINE;
+    'lines: while let Some((found, others)) = split_once(rest, b'\n') {
         if found == b"end".as_slice() {
             check_end(others, at)?;
             return Ok(nodes);
         }
-        if !take_line(alloc, &mut nodes, &mut numbers, found)? {
+        if !add_text_line(alloc, &mut nodes, &mut numbers, found)? {
             return Err(CertFault::Syntax(at));
         }
         rest = others;
@@ -67,9 +74,9 @@ fn read_nodes(alloc: Global, text: &[u8]) -> Result<Vec<TreeNode>, CertFault>
     Err(CertFault::Syntax(at))
 }
 
-/// Adds a line to the nodes if it may stand behind them, and answers whether it may. The numbers of
-/// the line take the place of those of another.
-fn take_line(
+/// Parses `line` and adds it to the nodes. Returns `false` if it is not a line of a node, or must
+/// not come after the lines before. `numbers` is a buffer; what it holds is lost.
+fn add_text_line(
     alloc: Global,
     nodes: &mut Vec<TreeNode>,
     numbers: &mut Vec<u32>,
@@ -79,7 +86,7 @@ fn take_line(
     ensures { IfOk result (λ taken. changed taken (nodes_seen nodes.new.items)
         ≡ next_in (nodes_seen nodes.old.items) (line.now ++ 10 ∷ [])) }
 {
-    let Some((name, rest)) = cut(line, b' ') else {
+    let Some((name, rest)) = split_once(line, b' ') else {
         return Ok(false);
     };
     if !read_numbers(rest, numbers)? {
@@ -91,9 +98,9 @@ fn take_line(
     add_line(alloc, nodes, said)
 }
 
-/// Refuses the line behind `end`, if there is one.
+/// Fails if there is text after the line `end`, which has the line number `at`.
 fn check_end(behind: &[u8], at: u32) -> Result<(), CertFault>
-    requires { at ≤ FIRST_BEHIND + LONGEST }
+    requires { at ≤ FIRST_NODE_LINE + MAX_TEXT_BYTES }
     ensures { Gives (λ nothing_more. []) result (end_at at [] (lines_of behind.now)) }
 {
     if !behind.is_empty() {

@@ -1,9 +1,9 @@
-//! The text of an obstruction.
+//! The writer of an obstruction's text.
 
 ghost use Rattle.std.specs.Prelude.{◌≡◌, ◌++◌, ◌∷◌, flat_map, map, IfOk, OnOk, string_bytes};
 ghost use Rattle.wf_model.specs.Report.{numbers_text};
-ghost use Rattle.wf_balance.specs.Multipliers.{multiplier_seen, multipliers_seen};
-ghost use Rattle.wf_cover.specs.Faults.{move_seen, moves_seen};
+ghost use Rattle.wf_tree_steps.specs.Balance.Multipliers.{multiplier_seen, multipliers_seen};
+ghost use Rattle.wf_tree_steps.specs.Cover.Faults.{move_seen, moves_seen};
 ghost use Rattle.wf_tree_text.specs.Seen.{node_seen, nodes_seen, obstruction_seen};
 ghost use Rattle.wf_tree_text.specs.Text.{balance_at, cover_at, line_text, lines_of_node, lines_of_nodes, move_at, multiplier_at, obstruction_text};
 
@@ -11,13 +11,16 @@ use crate::front::FIRST_LINE;
 use crate::obstruction::{Obstruction, TreeNode};
 use std::alloc::{AllocError, Global};
 use std::fmt::Write;
-use wf_balance::{Balance, Multiplier};
-use wf_cover::{Covering, Move};
-use wf_lines::{put_number, put_words};
+use wf_base::lines::{put_number, put_words};
+use wf_tree_steps::balance::{Balance, Multiplier};
+use wf_tree_steps::cover::{Covering, Move};
 
-/// The text of an obstruction: three lines in front, the nodes with their moves and multipliers,
-/// and `end`. Every line ends in one line feed, and numbers are decimal. Refused if memory runs
-/// out, and for nothing else.
+/// Returns the text of `obstruction`: three lines before the nodes, the nodes with their moves or
+/// multipliers, and the line `end`. Each line ends in a line feed, and numbers are decimal.
+///
+/// # Errors
+///
+/// Returns `AllocError` if memory runs out.
 pub fn write_obstruction(alloc: Global, obstruction: &Obstruction) -> Result<Vec<u8>, AllocError>
     ensures text { IfOk result (λ text.
         text.items ≡ obstruction_text (obstruction_seen obstruction.now)) }
@@ -31,7 +34,7 @@ pub fn write_obstruction(alloc: Global, obstruction: &Obstruction) -> Result<Vec
     Ok(text.into_bytes())
 }
 
-/// Adds the lines of the nodes.
+/// Appends the lines of all `nodes`.
 fn put_nodes(text: &mut String, nodes: &[TreeNode]) -> Result<(), AllocError>
     ensures { OnOk result (string_bytes text.new
         ≡ string_bytes text.old ++ flat_map line_text (lines_of_nodes (nodes_seen nodes.now))) }
@@ -42,7 +45,7 @@ fn put_nodes(text: &mut String, nodes: &[TreeNode]) -> Result<(), AllocError>
     Ok(())
 }
 
-/// Adds the lines of a node.
+/// Appends the lines of `node`: its own, and those of its moves or multipliers.
 fn put_node(text: &mut String, node: &TreeNode) -> Result<(), AllocError>
     ensures { OnOk result (string_bytes text.new
         ≡ string_bytes text.old ++ flat_map line_text (lines_of_node (node_seen node.now))) }
@@ -55,7 +58,7 @@ fn put_node(text: &mut String, node: &TreeNode) -> Result<(), AllocError>
     }
 }
 
-/// Adds the line of a cover, and those of its moves.
+/// Appends the line of a cover and those of its moves.
 fn put_cover(text: &mut String, cover: &Covering) -> Result<(), AllocError>
     ensures { let own = cover_at cover.now.simplex cover.now.sheets cover.now.corner in
         OnOk result (string_bytes text.new ≡ string_bytes text.old
@@ -72,7 +75,7 @@ fn put_cover(text: &mut String, cover: &Covering) -> Result<(), AllocError>
     Ok(())
 }
 
-/// Adds the line of a move.
+/// Appends the line of a move.
 fn put_move(text: &mut String, step: &Move) -> Result<(), AllocError>
     ensures { OnOk result (string_bytes text.new
         ≡ string_bytes text.old ++ line_text (move_at (move_seen step.now))) }
@@ -85,7 +88,7 @@ fn put_move(text: &mut String, step: &Move) -> Result<(), AllocError>
     put_values(text, &step.sheets)
 }
 
-/// Adds the line of a balance, and those of its multipliers.
+/// Appends the line of a balance and those of its multipliers.
 fn put_balance(text: &mut String, balance: &Balance) -> Result<(), AllocError>
     ensures { let own = balance_at balance.now.modulus balance.now.sum in
         OnOk result (string_bytes text.new ≡ string_bytes text.old ++ flat_map line_text
@@ -98,7 +101,7 @@ fn put_balance(text: &mut String, balance: &Balance) -> Result<(), AllocError>
     Ok(())
 }
 
-/// Adds the line of a multiplier.
+/// Appends the line of a multiplier.
 fn put_multiplier(text: &mut String, multiplier: &Multiplier) -> Result<(), AllocError>
     ensures { OnOk result (string_bytes text.new
         ≡ string_bytes text.old ++ line_text (multiplier_at (multiplier_seen multiplier.now))) }
@@ -111,7 +114,7 @@ fn put_multiplier(text: &mut String, multiplier: &Multiplier) -> Result<(), Allo
     put_values(text, multiplier.others.as_slice())
 }
 
-/// Adds each value with a space before it, and a line feed.
+/// Appends each value with a space before it, and a line feed at the end.
 fn put_values(text: &mut String, values: &[u8]) -> Result<(), AllocError>
     ensures { OnOk result (string_bytes text.new
         ≡ string_bytes text.old ++ numbers_text values.now) }

@@ -1,40 +1,44 @@
-//! `wfcheck`: can a task be decided wait-free in r rounds of iterated immediate snapshot?
+//! `wfcheck`: decides whether a task can be solved wait-free in r rounds of iterated immediate
+//! snapshot.
 //!
-//! The program is `wf_program`; here it is given its words, the files of the disk, standard input,
-//! standard output and standard error, and what tells how a run goes on.
+//! The program itself is [`wf_cli_program`]; `main` passes it the words of the command line, the
+//! file system, standard input, standard output and standard error, and an observer that prints
+//! progress.
 #![tactic(auto)]
 
 use std::io;
 use std::process::ExitCode;
 use std::sync::atomic::AtomicU64;
 use std::sync::atomic::Ordering::SeqCst;
-use wf_finder::Listener;
-use wf_io::{Sink, Source};
+use wf_base::streams::{Sink, Source};
+use wf_cli::service::{Disk, Opener, occupy_closed_descriptors};
+use wf_cli::words::arguments;
+use wf_cli_program::run_program;
 use wf_pool::{Gate, Moment};
-use wf_program::run_program;
-use wf_service::{Disk, Opener, hold_closed_streams};
-use wf_verify_engine::ProofListener;
-use wf_words::arguments;
+use wf_run_verify::ProofProgress;
+use wf_tree_finder::FinderProgress;
 
-/// So many turns in which no branch was settled are worth a line, and then twice as many each time.
+/// The number of search nodes without a settled branch after which a line is printed; further lines
+/// come each time that the number has doubled.
 const MANY_TURNS: u64 = 65_536;
 
-/// Tells on standard error how a run goes on. Of a search it tells how large the complex is, how
-/// many branches there are, a line for each settled branch, and, if none was settled for long, how
-/// many turns were taken since. Of the finder of obstructions it tells how many equations were
-/// taken in, and which nodes are tried; of a check of a proof which line is reached. If that can't
-/// be written nothing more can be done.
+/// An observer that prints the progress of a run on standard error.
+///
+/// For a search it prints the size of the complex, the number of branches, a line for each settled
+/// branch, and from time to time the number of search nodes since one was settled. For the finder
+/// of obstructions it prints the equations that were taken in and the nodes of the tree that are
+/// tried; for the check of a proof the line that is reached. Failed writes are ignored.
 #[derive(Drop)]
 struct ProgressLines<'a, R> {
     rt: &'a R,
     branches: AtomicU64,
     settled: AtomicU64,
-    // those since a branch was settled last
+    // search nodes since the last branch was settled
     turns: AtomicU64,
 }
 
 impl<'a, R> ProgressLines<'a, R> {
-    /// Before anything was searched.
+    /// Creates an observer of a run that has not begun.
     fn new(rt: &'a R) -> ProgressLines<'a, R> {
         ProgressLines {
             rt,
@@ -74,7 +78,7 @@ impl<R: Eprint + Sync> Gate for ProgressLines<'_, R> {
     }
 }
 
-impl<R: Eprint + Sync> Listener for ProgressLines<'_, R> {
+impl<R: Eprint + Sync> FinderProgress for ProgressLines<'_, R> {
     fn system(&self, modulus: u32, unknowns: u64) {
         let _told = eprintln!(self.rt; "modulo {modulus}: {unknowns} unknowns");
     }
@@ -101,14 +105,16 @@ impl<R: Eprint + Sync> Listener for ProgressLines<'_, R> {
     }
 }
 
-impl<R: Eprint + Sync> ProofListener for ProgressLines<'_, R> {
+impl<R: Eprint + Sync> ProofProgress for ProgressLines<'_, R> {
     fn at_line(&self, line: u64, bytes: u64) {
         let _told = eprintln!(self.rt; "line {line} of the proof, {bytes} bytes read");
     }
 }
 
+/// Runs the program on the process's own words, files and streams, with an observer that prints
+/// progress.
 fn main(rt: HostRuntime) -> ExitCode {
-    let _held = hold_closed_streams(&rt);
+    let _held = occupy_closed_descriptors(&rt);
     let progress = ProgressLines::new(&rt);
     let status = run_program(
         &rt,

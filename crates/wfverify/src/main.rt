@@ -1,18 +1,21 @@
-//! `wfverify`: is a certificate about a task true?
+//! `wfverify`: checks that a certificate about a task is true.
 //!
-//! The program is `wf_checker`; here it is given its words, the files of the disk, standard input,
-//! standard output and standard error.
+//! The program itself is [`checker`]; `main` passes it the words of the command line, the file
+//! system, standard input, standard output and standard error.
 #![tactic(auto)]
 
+pub mod checker;
+
+use crate::checker::run_checker;
 use std::io;
 use std::process::ExitCode;
-use wf_checker::run_checker;
-use wf_io::{Sink, Source};
-use wf_service::{Disk, Opener, hold_closed_streams};
-use wf_words::arguments;
+use wf_base::streams::{Sink, Source};
+use wf_cli::service::{Disk, Opener, occupy_closed_descriptors};
+use wf_cli::words::arguments;
 
+/// Runs the checker on the process's own words, files and streams.
 fn main(rt: HostRuntime) -> ExitCode {
-    let _held = hold_closed_streams(&rt);
+    let _held = occupy_closed_descriptors(&rt);
     let status = run_checker(
         &rt,
         rt.alloc(),

@@ -3,7 +3,7 @@ use Rattle.std.proofs.lemmas.List.{length-map}
 use Rattle.std.proofs.lemmas.Grind.{common_steps}
 use Rattle.wf_model.specs.Laws.{IsBoxOf}
 use Rattle.wf_model.specs.Closing.{closing}
-use Rattle.wf_set.specs.Sets.{box_of, values_in}
+use Rattle.wf_base.specs.Set.Sets.{box_of, values_in}
 use Rattle.wf_box.specs.Boxes.{Grows, IsFor, Tracked}
 use Rattle.wf_box.specs.Closes.{Leaves}
 use Rattle.wf_network.specs.Problems.{constraint_seen, executions_in}

@@ -2,7 +2,7 @@ use Rattle.std.proofs.Common.{◌≡◌, ℕ, ◌<◌, ◌≤◌, ◌+◌, get_o
 use Rattle.std.specs.Bool.{OnTrue}
 use Rattle.std.proofs.lemmas.Bool.{cases_lt}
 use Rattle.std.proofs.lemmas.List.{get_or_default, get_or_read}
-use Rattle.wf_set.specs.Sets.{values_in}
+use Rattle.wf_base.specs.Set.Sets.{values_in}
 use Rattle.wf_network.specs.Users.{IsUser}
 use Rattle.wf_box.specs.declared.tracked.Change.{Change}
 use Rattle.wf_box.proofs.TakingLemmas.{some_value}
@@ -50,7 +50,7 @@ loop-number-preserved c =
           (λ (earlier : k < c.loop-number.number). stays_marked c.loop-number.marks.words.items c.mark_each.new.self.words.items e c.mark_each.ensures.kept (c.loop-number.invariant.1 k d after earlier e user))
           (λ (last : c.loop-number.number ≤ k).
           let same : k ≡ c.loop-number.number = omega (arith, last, before) in
-          user_marked c.args.network.now.users c.index.result.now.point e c.users_of.result.now c.mark_each.new.self.words.items c.users_of.ensures.users c.mark_each.ensures.marked
+          user_marked c.args.network.now.users c.index.result.now.point e c.executions_of.result.now c.mark_each.new.self.words.items c.executions_of.ensures.users c.mark_each.ensures.marked
           (subst (λ (x : Change). IsUser c.args.network.now.users x.point e) (ap (λ n. get_or c.args.tracked.now.trail.items n d) same ∙ here d) user)) (cases_lt k c.loop-number.number),
       full_on c here,
     )

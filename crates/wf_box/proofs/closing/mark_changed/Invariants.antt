@@ -1,6 +1,6 @@
 use Rattle.std.proofs.Common.{◌≡◌, ℕ, ◌<◌, ◌≤◌, length, get_or, []}
 use Rattle.std.specs.Bool.{OnTrue}
-use Rattle.wf_set.specs.Sets.{values_in}
+use Rattle.wf_base.specs.Set.Sets.{values_in}
 use Rattle.wf_network.specs.Marks.{bit_of}
 use Rattle.wf_network.specs.Users.{IsUser}
 use Rattle.wf_box.specs.declared.tracked.Change.{Change}

@@ -1,6 +1,6 @@
 use Rattle.std.proofs.Common.{◌≡◌, All, length, drop, sym, ◌∙◌, subst, [], IfSome}
 use Rattle.wf_model.specs.Closing.{sweep_from}
-use Rattle.wf_set.specs.Sets.{box_of}
+use Rattle.wf_base.specs.Set.Sets.{box_of}
 use Rattle.wf_box.specs.Changes.{words_after}
 use Rattle.wf_network.specs.Problems.{IsWithin, executions_in}
 use Rattle.wf_box.specs.Quiet.{IsQuiet, WasClosed}

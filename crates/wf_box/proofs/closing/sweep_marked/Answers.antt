@@ -3,7 +3,7 @@ use Rattle.std.proofs.lemmas.List.{length-map}
 use Rattle.wf_network.specs.Problems.{IsWithin, constraint_seen, constraints_in, executions_in}
 use Rattle.wf_box.specs.Quiet.{IsQuietBut}
 use Rattle.wf_network.specs.Users.{no_execution}
-use Rattle.wf_set.specs.Sets.{box_of}
+use Rattle.wf_base.specs.Set.Sets.{box_of}
 use Rattle.wf_box.proofs.NameLemmas.{named_none, named_then, seen_at}
 use Rattle.wf_box.proofs.QuietLemmas.{next_turn, pass_all, quiet_again}
 use Rattle.wf_box.proofs.WorkLemmas.{proceeds_marked, proceeds_none, proceeds_then}

@@ -1,6 +1,6 @@
 use Rattle.std.proofs.Common.{◌≡◌, ℕ, ◌<◌, ◌≤◌, None, length, arith}
 use Rattle.wf_model.specs.Box.{count}
-use Rattle.wf_set.specs.Sets.{box_of}
+use Rattle.wf_base.specs.Set.Sets.{box_of}
 use Rattle.wf_box.proofs.SweepLemmas.{count_few, grown, swept_done, swept_more, swept_out}
 use Rattle.wf_box.proofs.WorkLemmas.{proceeds_then, still_working}
 use Rattle.wf_box.proofs.NameLemmas.{named_then}

@@ -2,7 +2,7 @@ use Rattle.std.proofs.Common.{None, suc, ◌+◌, ◌≤◌}
 use Rattle.wf_model.specs.Box.{count}
 use Rattle.wf_model.specs.Closing.{and_then, sweeps}
 use Rattle.wf_box.specs.Closes.{sweep_count}
-use Rattle.wf_set.specs.Sets.{box_of}
+use Rattle.wf_base.specs.Set.Sets.{box_of}
 use Rattle.wf_box.specs.Steps.{NamesLost, reached}
 use Rattle.wf_box.specs.Working.{AreMarked, ProceedsFor}
 use Rattle.wf_box.proofs.SweepLemmas.{SweepsLeft}

@@ -1,7 +1,7 @@
 use Rattle.std.proofs.Common.{[], arith, ap, sym, ◌∙◌, take_all}
 use Rattle.std.specs.List.{list_all}
 use Rattle.std.proofs.lemmas.List.Folds.{list_all-map, list_all_at}
-use Rattle.wf_set.specs.Sets.{values_in}
+use Rattle.wf_base.specs.Set.Sets.{values_in}
 use Rattle.wf_box.specs.Kept.{is_narrow}
 use Rattle.wf_box.proofs.kept.are_narrow.Goals as goal
 

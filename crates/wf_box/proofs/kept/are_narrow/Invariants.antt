@@ -1,6 +1,6 @@
 use Rattle.std.proofs.Common.{◌≡◌, true, take}
 use Rattle.std.specs.List.{list_all}
-use Rattle.wf_set.specs.Sets.{values_in}
+use Rattle.wf_base.specs.Set.Sets.{values_in}
 use Rattle.wf_box.specs.Kept.{is_narrow}
 use Rattle.wf_box.proofs.kept.are_narrow.Given as goal
 

@@ -1,6 +1,6 @@
 use Rattle.std.proofs.Common.{◌∙◌, ap, arith, length, nat_lt}
 use Rattle.std.proofs.lemmas.Bool.{lt-ltb}
-use Rattle.wf_set.specs.Parts.{part_values}
+use Rattle.wf_base.specs.Set.Parts.{part_values}
 use Rattle.wf_box.proofs.KeptLemmas.{part_here, part_nowhere}
 use Rattle.wf_box.proofs.kept.first_open_byte.Goals as goal
 

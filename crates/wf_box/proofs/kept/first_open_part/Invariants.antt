@@ -1,5 +1,5 @@
 use Rattle.std.proofs.Common.{◌≡◌, ℕ, ◌<◌, false, length, nat_lt, slice_index_or}
-use Rattle.wf_set.specs.Parts.{part_values}
+use Rattle.wf_base.specs.Set.Parts.{part_values}
 use Rattle.wf_box.proofs.kept.first_open_part.Given as goal
 
 abbrev pub invariant-loop-i : goal.invariant-loop-i

@@ -1,7 +1,7 @@
 use Rattle.std.proofs.Common.{nat_lt, filter, map, ap, sym, ◌∙◌, take_all}
 use Rattle.std.proofs.lemmas.Simd.{map-map}
-use Rattle.wf_set.specs.Parts.{part_limit}
-use Rattle.wf_set.specs.Sets.{values_in}
+use Rattle.wf_base.specs.Set.Parts.{part_limit}
+use Rattle.wf_base.specs.Set.Sets.{values_in}
 use Rattle.wf_box.proofs.kept.narrow.Goals as goal
 
 pub returns : goal.returns

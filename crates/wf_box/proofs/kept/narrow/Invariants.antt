@@ -1,6 +1,6 @@
 use Rattle.std.proofs.Common.{◌≡◌, ◌≤◌, nat_lt, filter, length, map, take, vec_capacity}
-use Rattle.wf_set.specs.Parts.{part_limit, part_values}
-use Rattle.wf_set.specs.Sets.{values_in}
+use Rattle.wf_base.specs.Set.Parts.{part_limit, part_values}
+use Rattle.wf_base.specs.Set.Sets.{values_in}
 use Rattle.wf_box.proofs.kept.narrow.Given as goal
 
 abbrev pub invariant-loop-set : goal.invariant-loop-set

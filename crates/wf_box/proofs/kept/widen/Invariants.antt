@@ -1,6 +1,6 @@
 use Rattle.std.proofs.Common.{◌≡◌, ◌≤◌, length, map, take, vec_capacity}
-use Rattle.wf_set.specs.Parts.{part_values}
-use Rattle.wf_set.specs.Sets.{box_of}
+use Rattle.wf_base.specs.Set.Parts.{part_values}
+use Rattle.wf_base.specs.Set.Sets.{box_of}
 use Rattle.wf_box.proofs.kept.widen.Given as goal
 
 abbrev pub invariant-loop-part : goal.invariant-loop-part

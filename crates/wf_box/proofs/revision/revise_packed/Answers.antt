@@ -17,10 +17,10 @@ returns-then-eq g c =
     (subst (λ r. HasSupported (widened (parts c.supported-supported.result)) (rule_at n r).table (widened (parts c.args.found))) c.requires.rule c.supported-supported.ensures.supported)) in
     revises_none n c.args.at.number c.args.lines.now c.args.workspace.now c.supported-supported.new.memo c.requires.revising c.supported-supported.ensures.known all
 
-pub take_packed-requires-clause-revising : goal.take_packed-requires-clause-revising
-take_packed-requires-clause-revising g c = revising_still c.args.network.now c.args.at.number c.args.lines.now c.args.workspace.now c.supported-supported.new.memo c.requires.revising c.supported-supported.ensures.known
+pub remove_packed-requires-clause-revising : goal.remove_packed-requires-clause-revising
+remove_packed-requires-clause-revising g c = revising_still c.args.network.now c.args.at.number c.args.lines.now c.args.workspace.now c.supported-supported.new.memo c.requires.revising c.supported-supported.ensures.known
 
 pub returns : goal.returns
 returns g c =
-    let r = c.take_packed.ensures in
+    let r = c.remove_packed.ensures in
     record { step = r.step; proceeds = r.proceeds; untouched = r.untouched; quiet = r.quiet; named = r.named }

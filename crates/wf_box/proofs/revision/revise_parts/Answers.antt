@@ -16,10 +16,10 @@ all_supported c =
 pub returns-in_default : goal.returns-in_default
 returns-in_default c = revises_none c.args.network.now c.args.at.number c.args.lines.now c.args.workspace.now c.supported_narrow.new.memo c.requires.revising c.supported_narrow.ensures.known (all_supported c)
 
-pub take_lost-requires-clause-revising : goal.take_lost-requires-clause-revising
-take_lost-requires-clause-revising c = revising_still c.args.network.now c.args.at.number c.args.lines.now c.args.workspace.now c.supported_narrow.new.memo c.requires.revising c.supported_narrow.ensures.known
+pub remove_unsupported-requires-clause-revising : goal.remove_unsupported-requires-clause-revising
+remove_unsupported-requires-clause-revising c = revising_still c.args.network.now c.args.at.number c.args.lines.now c.args.workspace.now c.supported_narrow.new.memo c.requires.revising c.supported_narrow.ensures.known
 
 pub returns : goal.returns
 returns c =
-    let r = c.take_lost.ensures in
+    let r = c.remove_unsupported.ensures in
     record { step = r.step; proceeds = r.proceeds; untouched = r.untouched; quiet = r.quiet; named = r.named }

@@ -2,7 +2,7 @@ use Rattle.std.proofs.Common.{◌≤◌, get_or, ◌≡◌, [], None, Some, ◌�
 use Rattle.std.proofs.lemmas.Grind.{common_steps}
 use Rattle.wf_model.specs.Problem.{Problem, constraint_at}
 use Rattle.wf_model.specs.Closing.{and_then}
-use Rattle.wf_set.specs.Sets.{box_of}
+use Rattle.wf_base.specs.Set.Sets.{box_of}
 use Rattle.wf_complex.specs.Protocol.{point_in}
 use Rattle.wf_box.specs.Steps.{IsNamed, loss, reached, take_present}
 use Rattle.wf_box.proofs.StepLemmas.{then_keeps}
@@ -10,38 +10,38 @@ use Rattle.std.specs.List.{slice_set}
 use Rattle.wf_model.specs.Box.{count}
 use Rattle.wf_box.proofs.TakingLemmas.{set_then}
 use Rattle.wf_box.proofs.NameLemmas.{named_then}
-use Rattle.wf_box.proofs.taking.take_in_turn.Goals.{else-holds-via-then-holds+else-take_out, else-holds-via-else-holds}
+use Rattle.wf_box.proofs.taking.take_in_turn.Goals.{else-contains-via-then-contains+else-take_out, else-holds-via-else-holds}
 use Rattle.wf_box.proofs.taking.take_in_turn.Goals as goal
 
 pub returns-then-take_out-clause-named : goal.returns-then-take_out-clause-named
 returns-then-take_out-clause-named c = λ p at. named_then p _ _ _ _ _ _ (c.values.invariant.3 p at) (c.take_out.ensures.named p at)
 
-named_on : (c : goal.Joined-else-holds) → (p : Problem) → point_in c.args.at.process (constraint_at p c.args.at.execution).scope ≡ Some c.args.at.point → IsNamed p c.args.lines.now.items c.args.sets.now c.else-holds.lines.items c.else-holds.sets
+named_on : (c : goal.Joined-else-contains) → (p : Problem) → point_in c.args.at.process (constraint_at p c.args.at.execution).scope ≡ Some c.args.at.point → IsNamed p c.args.lines.now.items c.args.sets.now c.else-contains.lines.items c.else-contains.sets
 named_on c p at =
-    elim c.else-holds.branch [
-      | else-holds-via-then-holds+else-take_out w ↦
+    elim c.else-contains.branch [
+      | else-contains-via-then-contains+else-take_out w ↦
           rw (w.sets-is, w.lines-is) (named_then p _ _ _ _ _ _ (c.values.invariant.3 p at) (w.take_out.ensures.named p at))
       | else-holds-via-else-holds w ↦ rw (w.sets-is, w.lines-is) (c.values.invariant.3 p at)
     ]
 
-others_on : (c : goal.Joined-else-holds) → c.else-holds.sets ≡ slice_set c.args.sets.now c.args.at.point (get_or c.else-holds.sets c.args.at.point [])
+others_on : (c : goal.Joined-else-contains) → c.else-contains.sets ≡ slice_set c.args.sets.now c.args.at.point (get_or c.else-contains.sets c.args.at.point [])
 others_on c =
-    elim c.else-holds.branch [
-      | else-holds-via-then-holds+else-take_out w ↦ rw w.sets-is (set_then c.args.sets.now c.values.sets w.take_out.new.sets c.args.at.point c.values.invariant.5 w.take_out.ensures.others)
+    elim c.else-contains.branch [
+      | else-contains-via-then-contains+else-take_out w ↦ rw w.sets-is (set_then c.args.sets.now c.values.sets w.take_out.new.sets c.args.at.point c.values.invariant.5 w.take_out.ensures.others)
       | else-holds-via-else-holds w ↦ rw w.sets-is c.values.invariant.5
     ]
 
-fewer_on : (c : goal.Joined-else-holds) → count (box_of c.else-holds.sets) ≤ count (box_of c.args.sets.now)
+fewer_on : (c : goal.Joined-else-contains) → count (box_of c.else-contains.sets) ≤ count (box_of c.args.sets.now)
 fewer_on c =
-    elim c.else-holds.branch [
-      | else-holds-via-then-holds+else-take_out w ↦ rw w.sets-is (omega (arith, c.values.invariant.6, w.take_out.ensures.fewer))
+    elim c.else-contains.branch [
+      | else-contains-via-then-contains+else-take_out w ↦ rw w.sets-is (omega (arith, c.values.invariant.6, w.take_out.ensures.fewer))
       | else-holds-via-else-holds w ↦ rw w.sets-is c.values.invariant.6
     ]
 
-same_on : (c : goal.Joined-else-holds) → count (box_of c.else-holds.sets) ≡ count (box_of c.args.sets.now) → c.else-holds.sets ≡ c.args.sets.now
+same_on : (c : goal.Joined-else-contains) → count (box_of c.else-contains.sets) ≡ count (box_of c.args.sets.now) → c.else-contains.sets ≡ c.args.sets.now
 same_on c =
-    elim c.else-holds.branch [
-      | else-holds-via-then-holds+else-take_out w ↦
+    elim c.else-contains.branch [
+      | else-contains-via-then-contains+else-take_out w ↦
           rw w.sets-is (λ is. w.take_out.ensures.same (omega (arith, c.values.invariant.6, w.take_out.ensures.fewer, is)) ∙ c.values.invariant.7 (omega (arith, c.values.invariant.6, w.take_out.ensures.fewer, is)))
       | else-holds-via-else-holds w ↦ rw w.sets-is c.values.invariant.7
     ]

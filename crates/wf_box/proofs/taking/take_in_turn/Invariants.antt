@@ -2,7 +2,7 @@ use Rattle.std.proofs.Common.{◌≡◌, ◌≤◌, [], get_or, None, Some, leng
 use Rattle.wf_model.specs.Problem.{Problem, constraint_at}
 use Rattle.wf_model.specs.Closing.{and_then}
 use Rattle.wf_complex.specs.Protocol.{point_in}
-use Rattle.wf_set.specs.Sets.{box_of, values_in}
+use Rattle.wf_base.specs.Set.Sets.{box_of, values_in}
 use Rattle.wf_box.specs.Steps.{HasRoom, IsNamed, IsSpent, loss, reached, take_present}
 use Rattle.std.specs.List.{slice_set}
 use Rattle.wf_model.specs.Box.{count}

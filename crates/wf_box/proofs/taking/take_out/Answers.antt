@@ -1,8 +1,8 @@
 use Rattle.std.proofs.Common.{◌++◌, ◌∷◌, [], Some, None, ◌∙◌, sym, ap, subst, arith, length-set}
 use Rattle.std.specs.List.{slice_set}
 use Rattle.std.proofs.lemmas.List.{length-map}
-use Rattle.wf_lines.specs.declared.line.Line.TheVariants as line
-use Rattle.wf_set.specs.Sets.{values_in}
+use Rattle.wf_base.specs.declared.lines.line.Line.TheVariants as line
+use Rattle.wf_base.specs.Set.Sets.{values_in}
 use Rattle.wf_box.specs.Steps.{IsNamed, reached}
 use Rattle.wf_box.proofs.NameLemmas.{named_empty, named_lost, named_then}
 use Rattle.wf_box.proofs.TakingLemmas.{no_value, one_less, set_there, some_value, set_without, taken_on, taken_last}

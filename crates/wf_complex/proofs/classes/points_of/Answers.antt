@@ -65,48 +65,48 @@ returns-clause-count c =
     ∙ ap length c.in_ok-numbered.ensures.firsts_are
     ∙ sym (length-distinct_views c.args.views.now c.len.ensures.once c.args.lasts.items c.requires.lasts)
 
-pub normals_of-requires-clause-ids : goal.normals_of-requires-clause-ids
-normals_of-requires-clause-ids c =
+pub anonymous_views-requires-clause-ids : goal.anonymous_views-requires-clause-ids
+anonymous_views-requires-clause-ids c =
     let n = c.in_ok-numbered.numbered in
     subst (All (λ k. k < length c.args.views.now)) (sym c.deref.ensures.value)
     (each_different (λ k. k < length c.args.views.now) c.args.lasts.items n.different.items n.firsts.items n.places.items c.in_ok-numbered.ensures c.requires.lasts)
 
-pub normals_of-requires-clause-shallow : goal.normals_of-requires-clause-shallow
-normals_of-requires-clause-shallow c =
+pub anonymous_views-requires-clause-shallow : goal.anonymous_views-requires-clause-shallow
+anonymous_views-requires-clause-shallow c =
     let n = c.in_ok-numbered.numbered in
     subst (All (λ k. count_within (view_at c.args.views.now k) ≤ most_within)) (sym c.deref.ensures.value)
     (each_different (λ k. count_within (view_at c.args.views.now k) ≤ most_within) c.args.lasts.items n.different.items n.firsts.items n.places.items c.in_ok-numbered.ensures c.requires.shallow)
 
-pub normals_of-requires-clause-room : goal.normals_of-requires-clause-room
-normals_of-requires-clause-room c =
+pub anonymous_views-requires-clause-room : goal.anonymous_views-requires-clause-room
+anonymous_views-requires-clause-room c =
     let n = c.in_ok-numbered.numbered in
     omega (arith, ap length c.deref.ensures.value, few_different c.args.lasts.items n.different.items n.firsts.items n.places.items c.in_ok-numbered.ensures, c.requires.room)
 
 pub number_all-requires-2-clause-few : goal.number_all-requires-2-clause-few
 number_all-requires-2-clause-few c =
     let n = c.in_ok-numbered.numbered in
-    let made : views_at c.normals_of.new.views c.in_ok-normals.normals.items ≡ map normal (views_at c.args.views.now c.in_ok-numbered.numbered.different.items) =
+    let made : views_at c.anonymous_views.new.views c.in_ok-normals.normals.items ≡ map normal (views_at c.args.views.now c.in_ok-numbered.numbered.different.items) =
     c.in_ok-normals.ensures.normals ∙ ap (λ xs. map normal (views_at c.args.views.now xs)) c.deref.ensures.value in
-    let long = as_many c.args.views.now c.normals_of.new.views c.args.lasts.items n.different.items n.firsts.items n.places.items c.in_ok-normals.normals.items c.in_ok-numbered.ensures made in
+    let long = as_many c.args.views.now c.anonymous_views.new.views c.args.lasts.items n.different.items n.firsts.items n.places.items c.in_ok-normals.normals.items c.in_ok-numbered.ensures made in
     omega (arith, long, few_firsts c.args.lasts.items c.in_ok-numbered.numbered.firsts.items c.in_ok-numbered.ensures.firsts_are, c.requires.few)
 
 pub pick-requires : goal.pick-requires
 pick-requires c =
     let n = c.in_ok-numbered.numbered in
-    let made : views_at c.normals_of.new.views c.in_ok-normals.normals.items ≡ map normal (views_at c.args.views.now c.in_ok-numbered.numbered.different.items) =
+    let made : views_at c.anonymous_views.new.views c.in_ok-normals.normals.items ≡ map normal (views_at c.args.views.now c.in_ok-numbered.numbered.different.items) =
     c.in_ok-normals.ensures.normals ∙ ap (λ xs. map normal (views_at c.args.views.now xs)) c.deref.ensures.value in
-    let long = as_many c.args.views.now c.normals_of.new.views c.args.lasts.items n.different.items n.firsts.items n.places.items c.in_ok-normals.normals.items c.in_ok-numbered.ensures made in
+    let long = as_many c.args.views.now c.anonymous_views.new.views c.args.lasts.items n.different.items n.firsts.items n.places.items c.in_ok-normals.normals.items c.in_ok-numbered.ensures made in
     let ns = c.in_ok-normals.normals.items in
     let mf = c.in_ok-merged.merged.firsts.items in
     subst (λ n. All (λ p. p < n) c.deref-3.result.now) (long ∙ ap length (sym c.deref-2.ensures.value))
     (subst (All (λ p. p < length c.in_ok-normals.normals.items)) (sym c.deref-3.ensures.value) (firsts_low ns mf c.in_ok-merged.ensures.firsts_are))
 
-pub pick_over-requires : goal.pick_over-requires
-pick_over-requires c =
+pub gather_in_place-requires : goal.gather_in_place-requires
+gather_in_place-requires c =
     let n = c.in_ok-numbered.numbered in
-    let made : views_at c.normals_of.new.views c.in_ok-normals.normals.items ≡ map normal (views_at c.args.views.now c.in_ok-numbered.numbered.different.items) =
+    let made : views_at c.anonymous_views.new.views c.in_ok-normals.normals.items ≡ map normal (views_at c.args.views.now c.in_ok-numbered.numbered.different.items) =
     c.in_ok-normals.ensures.normals ∙ ap (λ xs. map normal (views_at c.args.views.now xs)) c.deref.ensures.value in
-    let long = as_many c.args.views.now c.normals_of.new.views c.args.lasts.items n.different.items n.firsts.items n.places.items c.in_ok-normals.normals.items c.in_ok-numbered.ensures made in
+    let long = as_many c.args.views.now c.anonymous_views.new.views c.args.lasts.items n.different.items n.firsts.items n.places.items c.in_ok-normals.normals.items c.in_ok-numbered.ensures made in
     let m = c.in_ok-merged.merged in
     subst (λ xs. All (λ p. p < length xs) c.in_ok-numbered.numbered.places.items) (sym c.deref-4.ensures.value)
     (low_merged c.args.views.now c.len.ensures.once c.args.lasts.items c.requires.lasts n.different.items n.firsts.items n.places.items c.in_ok-numbered.ensures
@@ -115,18 +115,18 @@ pick_over-requires c =
 pub returns-clause-points : goal.returns-clause-points
 returns-clause-points c =
     let old = c.args.views.now in
-    let new = c.normals_of.new.views in
+    let new = c.anonymous_views.new.views in
     let lasts = c.args.lasts.items in
     let normals = c.in_ok-normals.normals.items in
     let n = c.in_ok-numbered.numbered in
-    let made : views_at c.normals_of.new.views c.in_ok-normals.normals.items ≡ map normal (views_at c.args.views.now c.in_ok-numbered.numbered.different.items) =
+    let made : views_at c.anonymous_views.new.views c.in_ok-normals.normals.items ≡ map normal (views_at c.args.views.now c.in_ok-numbered.numbered.different.items) =
     c.in_ok-normals.ensures.normals ∙ ap (λ xs. map normal (views_at c.args.views.now xs)) c.deref.ensures.value in
-    let long = as_many c.args.views.now c.normals_of.new.views c.args.lasts.items n.different.items n.firsts.items n.places.items c.in_ok-normals.normals.items c.in_ok-numbered.ensures made in
+    let long = as_many c.args.views.now c.anonymous_views.new.views c.args.lasts.items n.different.items n.firsts.items n.places.items c.in_ok-normals.normals.items c.in_ok-numbered.ensures made in
     let m = c.in_ok-merged.merged in
     let views = c.in_ok-numbered.ensures in
     let low = low_normals old c.len.ensures.once lasts c.requires.lasts n.different.items n.firsts.items n.places.items views normals m.different.items m.firsts.items m.places.items long c.in_ok-merged.ensures in
     let firsts_are : c.in_ok-firsts.firsts.items ≡ picked c.in_ok-numbered.numbered.firsts.items c.in_ok-merged.merged.firsts.items = c.in_ok-firsts.ensures ∙ (λ i. picked (c.deref-2.ensures.value i) (c.deref-3.ensures.value i)) in
-    let numbers_are : c.pick_over.result.items ≡ picked c.in_ok-merged.merged.places.items c.in_ok-numbered.numbered.places.items = c.pick_over.ensures ∙ ap (λ xs. picked xs n.places.items) c.deref-4.ensures.value in
+    let numbers_are : c.gather_in_place.result.items ≡ picked c.in_ok-merged.merged.places.items c.in_ok-numbered.numbered.places.items = c.gather_in_place.ensures ∙ ap (λ xs. picked xs n.places.items) c.deref-4.ensures.value in
     let merged =
     are_merged old c.len.ensures.once lasts c.requires.lasts n.different.items n.firsts.items n.places.items views normals m.different.items m.firsts.items m.places.items long c.in_ok-merged.ensures in
     record {
@@ -134,9 +134,9 @@ returns-clause-points c =
       named =
           classes_are_normals old new lasts n.firsts.items n.places.items normals views.low (found_again lasts n.different.items n.firsts.items n.places.items views)
           (made_again old new lasts n.different.items n.firsts.items n.places.items normals views made) c.args.symmetric c.if-not-symmetric.false;
-      within = all_picked (λ k. k < length c.normals_of.new.views) normals n.places.items c.in_ok-normals.ensures.within low;
+      within = all_picked (λ k. k < length c.anonymous_views.new.views) normals n.places.items c.in_ok-normals.ensures.within low;
       once = c.len-2.ensures.once;
       numbered =
-          subst (λ fs. AreNumbered (picked normals n.places.items) m.different.items fs c.pick_over.result.items) (sym firsts_are)
+          subst (λ fs. AreNumbered (picked normals n.places.items) m.different.items fs c.gather_in_place.result.items) (sym firsts_are)
           (subst (AreNumbered (picked normals n.places.items) m.different.items (picked n.firsts.items m.firsts.items)) (sym numbers_are) merged);
     }

@@ -4,8 +4,8 @@ use Rattle.wf_complex.specs.Renaming.{number_beside}
 use Rattle.wf_complex.proofs.NewNumbers.{next_known}
 use Rattle.wf_complex.proofs.node.renumber.Goals as goal
 
-pub number_beside-requires-clause-known : goal.number_beside-requires-clause-known
-number_beside-requires-clause-known c =
+pub new_id-requires-clause-known : goal.new_id-requires-clause-known
+new_id-requires-clause-known c =
     let long : c.args.node.count ≤ length c.args.node.ids = omega arith in
     let low : c.loop-place.place < c.args.node.count = omega arith in
     next_known (λ k. has (take (length c.args.new.now) c.args.old.now) k ≡ true) (number_beside c.args.old.now c.args.new.now)

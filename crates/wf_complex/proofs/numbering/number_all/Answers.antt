@@ -12,16 +12,16 @@ of_number a = Ok a
 ok_same : {E : Type 0} (a b : ℕ) → of_number {E = E} a ≡ Ok b → a ≡ b
 ok_same a b h = cc
 
-pub number_one-requires-clause-id : goal.number_one-requires-clause-id
-number_one-requires-clause-id c =
+pub intern-requires-clause-id : goal.intern-requires-clause-id
+intern-requires-clause-id c =
     let ids = c.args.ids.items in
     let long : length c.loop-i.places.items ≡ length c.args.ids.items = omega (arith, c.loop-i.invariant.long, c.loop-i.places.ok, c.args.ids.ok) in
     let inside : c.loop-i.i < length c.args.ids.items = omega (arith, c.loop-i-test.true, c.len-i-end.ensures, c.args.ids.ok) in
     let same : c.index-id.result.now ≡ slice_index c.args.ids.items c.loop-i.i = c.index-id.ensures ∙ still_there c.loop-i.places.items ids c.loop-i.i c.index-id.result.now c.loop-i.invariant.left (omega (arith, inside, long)) in
     omega (arith, same, All-get_or (λ x. x < c.args.bound) ids c.loop-i.i 0 inside c.requires.bound, c.loop-i.invariant.numbers)
 
-pub number_one-requires-clause-room : goal.number_one-requires-clause-room
-number_one-requires-clause-room c = omega (arith, c.loop-i.invariant.kept.few, c.loop-i.firsts.ok, c.loop-i-test.true, c.len-i-end.ensures, c.args.ids.ok, c.requires.few)
+pub intern-requires-clause-room : goal.intern-requires-clause-room
+intern-requires-clause-room c = omega (arith, c.loop-i.invariant.kept.few, c.loop-i.firsts.ok, c.loop-i-test.true, c.len-i-end.ensures, c.args.ids.ok, c.requires.few)
 
 pub loop-i-preserved : goal.loop-i-preserved
 loop-i-preserved c =
@@ -40,15 +40,15 @@ loop-i-preserved c =
     let low : slice_index c.args.ids.items c.loop-i.i < length c.loop-i.numbers.items = omega (arith, All-get_or (λ x. x < c.args.bound) ids i 0 inside c.requires.bound, c.loop-i.invariant.numbers, c.loop-i.numbers.ok) in
     let read : get_or c.loop-i.numbers.items c.index-id.result.now None ≡ get_or c.loop-i.numbers.items (slice_index c.args.ids.items c.loop-i.i) None = ap (λ x. get_or ns x None) same in
     record {
-      numbers = c.number_one.ensures.numbers ∙ c.loop-i.invariant.numbers;
+      numbers = c.intern.ensures.numbers ∙ c.loop-i.invariant.numbers;
       long = c.loop-i.invariant.long;
       left = left_after places ids i place c.loop-i.invariant.left here inside;
-      kept = one_turn ids i fs c.number_one.new.firsts.items ns c.number_one.new.numbers.items (take i places) (take (i + 1) (set places i place)) place
+      kept = one_turn ids i fs c.intern.new.firsts.items ns c.intern.new.numbers.items (take i places) (take (i + 1) (set places i place)) place
           (get_or ns (slice_index ids i) None) refl low inside
           (λ k e. let m = c.in_ok-places.ensures.met k (read ∙ e) in (ok_same place k m.0, m.1, m.2))
           (λ e. let m = c.in_ok-places.ensures.first (read ∙ e) in (ok_same place (length fs) m.0, m.1 ∙ ap (λ x. set ns x (Some (length fs))) same, m.2))
           (take_more_set places i place here) c.loop-i.invariant.kept;
-      different = different_turn ids i fs c.number_one.new.firsts.items ds c.number_one.new.different.items ns (get_or ns (slice_index ids i) None) refl
+      different = different_turn ids i fs c.intern.new.firsts.items ds c.intern.new.different.items ns (get_or ns (slice_index ids i) None) refl
           (λ k e. let m = c.in_ok-places.ensures.met k (read ∙ e) in (m.2, m.3))
           (λ e. let m = c.in_ok-places.ensures.first (read ∙ e) in (m.2, m.3 ∙ ap (λ x. ds ++ x ∷ []) same))
           c.loop-i.invariant.different;

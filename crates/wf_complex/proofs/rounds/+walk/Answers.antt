@@ -3,7 +3,7 @@ use Rattle.std.proofs.Math.Nat.{mul-le-mul_right}
 use Rattle.std.proofs.lemmas.List.{take_all, length-map}
 use Rattle.std.proofs.lemmas.List.Elements.{recursion_from_All, All-from_recursion, All-get_or}
 use Rattle.wf_model.specs.View.{round}
-use Rattle.wf_complex.specs.declared.rounds.Sight.{Sight}
+use Rattle.wf_complex.specs.declared.rounds.ImmediateSnapshot.{ImmediateSnapshot}
 use Rattle.wf_complex.specs.Rounds.{views_at, words_in, IsSightOf, AreKnown, leaves, cost}
 use Rattle.wf_complex.proofs.RoundLemmas.{extends_itself, extends_then, are_views_kept, within_kept, views_kept}
 use Rattle.wf_complex.proofs.KnownLemmas.{none_known, known_kept}
@@ -133,5 +133,5 @@ returns-clause-made t c =
     let vs = views_at c.args.views.now c.args.current.now in
     let ws = words_in c.args.sights.now in
     c.loop-sight.invariant.made
-    ∙ ap (λ us. views_at c.args.views.now c.args.lasts.now.items ++ flat_map (λ w. leaves ws (c.args.rounds - 1) (round vs w)) us) (take_all c.loop-sight.sight-index ws (omega (arith, length-map c.args.sights.now (λ (x : Sight). x.word), c.loop-sight-test.false)))
+    ∙ ap (λ us. views_at c.args.views.now c.args.lasts.now.items ++ flat_map (λ w. leaves ws (c.args.rounds - 1) (round vs w)) us) (take_all c.loop-sight.sight-index ws (omega (arith, length-map c.args.sights.now (λ (x : ImmediateSnapshot). x.word), c.loop-sight-test.false)))
     ∙ ap (λ us. views_at c.args.views.now c.args.lasts.now.items ++ us) (sym (leaves_more ws c.args.rounds vs (omega arith)))

@@ -2,7 +2,7 @@ use Rattle.std.proofs.Common.{◌≡◌, ◌<◌, ◌+◌, ℕ, All, length, tak
 use Rattle.std.proofs.lemmas.List.{length-map}
 use Rattle.std.proofs.lemmas.List.Elements.{All-from_recursion, recursion_from_All}
 use Rattle.wf_model.specs.Word.{words}
-use Rattle.wf_complex.specs.declared.rounds.Sight.{Sight}
+use Rattle.wf_complex.specs.declared.rounds.ImmediateSnapshot.{ImmediateSnapshot}
 use Rattle.wf_complex.specs.Rounds.{cost_of_each, words_in, AreSights, AreViews, IsSightOf}
 use Rattle.wf_complex.proofs.RoundLemmas.{extends_then, within_kept}
 use Rattle.wf_complex.proofs.InputLemmas.{long, room_after, room_for, made_after}
@@ -52,7 +52,7 @@ walk-requires-clause-room c =
     let sights = c.deref.result.now in
     let ready : AreSights c.args.plan.first_block c.make.new.self.size c.make.new.self.sights.items = c.in_ok-make.ensures.made (omega (arith, c.in_ok-make.ensures.size, c.colours-size.ensures.some)) in
     let are : words_in c.deref.result.now ≡ words c.args.plan.first_block c.colours-size.result = ap words_in c.deref.ensures.value ∙ ready.0 ∙ ap (words m) c.in_ok-make.ensures.size in
-    let counted : length c.deref.result.now ≡ length (words_in c.deref.result.now) = sym (length-map c.deref.result.now (λ (x : Sight). x.word)) in
+    let counted : length c.deref.result.now ≡ length (words_in c.deref.result.now) = sym (length-map c.deref.result.now (λ (x : ImmediateSnapshot). x.word)) in
     omega (
       arith,
       room_for m c.args.plan.rounds ss i s place c.simplex-item.is c.in_ok-first.first n c.colours-size.ensures.count c.loop-simplex.views c.first_views.new.views c.first_views.new.views views (words_in sights) are (length sights) (length c.args.views.now + cost_of_each c.args.plan.first_block c.args.plan.rounds ss) counted c.loop-simplex.invariant.room c.first_views.ensures.few,
@@ -76,7 +76,7 @@ loop-simplex-preserved c =
     let sights = c.deref.result.now in
     let ready : AreSights c.args.plan.first_block c.make.new.self.size c.make.new.self.sights.items = c.in_ok-make.ensures.made (omega (arith, c.in_ok-make.ensures.size, c.colours-size.ensures.some)) in
     let are : words_in c.deref.result.now ≡ words c.args.plan.first_block c.colours-size.result = ap words_in c.deref.ensures.value ∙ ready.0 ∙ ap (words m) c.in_ok-make.ensures.size in
-    let counted : length c.deref.result.now ≡ length (words_in c.deref.result.now) = sym (length-map c.deref.result.now (λ (x : Sight). x.word)) in
+    let counted : length c.deref.result.now ≡ length (words_in c.deref.result.now) = sym (length-map c.deref.result.now (λ (x : ImmediateSnapshot). x.word)) in
     record {
       extends = extends_then c.args.views.now c.first_views.new.views c.walk.new.views (extends_then c.args.views.now c.loop-simplex.views c.first_views.new.views c.loop-simplex.invariant.extends c.first_views.ensures.extends) c.walk.ensures.extends;
       room = room_after m c.args.plan.rounds ss i s place c.simplex-item.is c.in_ok-first.first n c.colours-size.ensures.count c.loop-simplex.views c.first_views.new.views c.walk.new.views views (words_in sights) are (length sights) (length c.args.views.now + cost_of_each c.args.plan.first_block c.args.plan.rounds ss) counted c.loop-simplex.invariant.room c.first_views.ensures.few c.walk.ensures.added;

@@ -2,7 +2,7 @@ use Rattle.std.proofs.Common.{◌<◌, ◌++◌, [], ◌∷◌, All, length, ari
 use Rattle.std.proofs.lemmas.List.{map_push}
 use Rattle.std.proofs.lemmas.List.Elements.{All-push}
 use Rattle.wf_model.specs.Word.{words}
-use Rattle.wf_complex.specs.declared.rounds.Sight.{Sight}
+use Rattle.wf_complex.specs.declared.rounds.ImmediateSnapshot.{ImmediateSnapshot}
 use Rattle.wf_complex.specs.Rounds.{words_in, IsSightOf}
 use Rattle.wf_complex.proofs.WalkLemmas.{length_first, next_at, take_word}
 use Rattle.wf_complex.proofs.rounds.sights_of.Goals as goal
@@ -26,7 +26,7 @@ loop-turn-preserved c =
       size = c.next_allowed.ensures.size ∙ c.loop-turn.invariant.size;
       made =
           ap words_in c.in_ok-push.ensures.items
-          ∙ map_push (λ (x : Sight). x.word) c.loop-turn.all.items s
+          ∙ map_push (λ (x : ImmediateSnapshot). x.word) c.loop-turn.all.items s
           ∙ (λ i. c.loop-turn.invariant.made i ++ c.sight_of.ensures.word i ∷ [])
           ∙ sym (take_word ws c.loop-turn.turn c.loop-turn.word at);
       sights = subst (All (IsSightOf c.args.size)) (sym c.in_ok-push.ensures.items) (All-push (IsSightOf c.args.size) c.loop-turn.all.items s c.loop-turn.invariant.sights (ap length c.sight_of.ensures.word ∙ c.loop-turn.invariant.size, c.sight_of.ensures.seen));

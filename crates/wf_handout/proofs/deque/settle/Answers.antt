@@ -13,11 +13,11 @@ absorb-requires-clause-rule c = merges _ _ _ _ (let p = c.owner.invariant.1 in o
 pub loop-branch-init : goal.loop-branch-init
 loop-branch-init c =
     let o = c.owner.view_is in
-    let r = c.raider.view_is in
+    let r = c.thief.view_is in
     let v = c.absorb.ensures.rule in
     let o1 = c.owner.invariant.1 in
-    let r1 = c.raider.invariant.2 in
-    let parts : (worker_view c.owner.inside.deque).parts + (view c.raider.inside.pass).parts ≡ 2 = omega arith in (
+    let r1 = c.thief.invariant.2 in
+    let parts : (worker_view c.owner.inside.deque).parts + (view c.thief.inside.pass).parts ≡ 2 = omega arith in (
       [],
       sym (append-nil _),
       v ∙ (λ k. pile (parts k) (o k).dealt ((o k).taken ++ (r k).taken)) ∙ ap (pile 2 c.args.owner.dealt) (sym (append-nil _)),
@@ -41,7 +41,7 @@ loop-branch-preserved c =
     let i = c.loop-branch.invariant in
     let t = c.in-Some.ensures.taken in
     let b = c.in-Some.branch in
-    let both = c.args.owner.taken ++ c.args.raider.taken in (
+    let both = c.args.owner.taken ++ c.args.thief.taken in (
       i.0 ++ b ∷ [],
       c.in_ok-push.ensures.items ∙ ap (λ (l : List ℕ). l ++ b ∷ []) i.1 ∙ append_assoc c.args.left.now.items i.0 (b ∷ []),
       t.0 ∙ (λ k. pile (i.2 k).parts (i.2 k).dealt ((i.2 k).taken ++ b ∷ [])) ∙ ap (pile 2 c.args.owner.dealt) (append_assoc both i.0 (b ∷ [])),
@@ -58,10 +58,10 @@ returns-in_err-push-clause-short c =
     let f = fair w.dealt w.taken t.1 b in
     let d : times b w.dealt ≡ times b c.args.owner.dealt = ap (λ (p : Pile). times b p.dealt) t.0 ∙ ap (λ (p : Pile). times b p.dealt) i.2 in
     let k : times b w.taken ≡ times b (v.taken ++ b ∷ []) = ap (λ (p : Pile). times b p.taken) t.0 in
-    let e : times b v.taken ≡ times b ((c.args.owner.taken ++ c.args.raider.taken) ++ i.0) = ap (λ (p : Pile). times b p.taken) i.2 in
+    let e : times b v.taken ≡ times b ((c.args.owner.taken ++ c.args.thief.taken) ++ i.0) = ap (λ (p : Pile). times b p.taken) i.2 in
     let a0 = times-append b v.taken (b ∷ []) in
-    let a1 = times-append b (c.args.owner.taken ++ c.args.raider.taken) i.0 in
-    let a2 = times-append b c.args.owner.taken c.args.raider.taken in
+    let a1 = times-append b (c.args.owner.taken ++ c.args.thief.taken) i.0 in
+    let a2 = times-append b c.args.owner.taken c.args.thief.taken in
     let a3 = times_same b b [] refl in
     on_err c.from_residual.result (b, omega arith)
 
@@ -75,7 +75,7 @@ returns-clause-whole c = λ x.
     let d = ap (λ (p : Pile). times x p.dealt) i.2 in
     let k = ap (λ (p : Pile). times x p.taken) i.2 in
     let l = ap (times x) i.1 in
-    let a0 = times-append x (c.args.owner.taken ++ c.args.raider.taken) i.0 in
-    let a1 = times-append x c.args.owner.taken c.args.raider.taken in
+    let a0 = times-append x (c.args.owner.taken ++ c.args.thief.taken) i.0 in
+    let a1 = times-append x c.args.owner.taken c.args.thief.taken in
     let a2 = times-append x c.args.left.now.items i.0 in
     omega arith

@@ -9,8 +9,8 @@ loop-i-preserved c =
     let i = c.loop-i.i in
     let inv = c.loop-i.invariant in
     record {
-      met = met_more c.args.sets.now c.args.others.now sets i c.meet.result (omega arith) c.meet.ensures (inv.rest i (omega arith)) inv.met;
-      rest = λ k le. get_or-set_other sets i k c.meet.result [] (λ e. absurd (omega (arith, e, le))) ∙ inv.rest k (omega (arith, le));
+      met = met_more c.args.sets.now c.args.others.now sets i c.intersection.result (omega arith) c.intersection.ensures (inv.rest i (omega arith)) inv.met;
+      rest = λ k le. get_or-set_other sets i k c.intersection.result [] (λ e. absurd (omega (arith, e, le))) ∙ inv.rest k (omega (arith, le));
     }
 
 pub returns : goal.returns

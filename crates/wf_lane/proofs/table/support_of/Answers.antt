@@ -1,7 +1,7 @@
 use Rattle.std.proofs.Common.{◌≡◌, List, ℕ, length, arith, subst, ap, ◌∙◌}
 use Rattle.std.specs.Prelude.{count_by, slice_index}
-use Rattle.wf_set.specs.Parts.{part_values}
-use Rattle.wf_set.proofs.Lemmas.{values_of_nothing}
+use Rattle.wf_base.specs.Set.Parts.{part_values}
+use Rattle.wf_base.proofs.OfSet.Lemmas.{values_of_nothing}
 use Rattle.wf_lane.specs.Words.{is_live}
 use Rattle.wf_lane.specs.Rows.{AreJoined, rows_in}
 use Rattle.wf_lane.proofs.RevisedRows.{alive_of, closed_past, supported_of}

@@ -5,6 +5,6 @@ use Rattle.wf_lane.proofs.wide.revise_rows.Goals as goal
 pub loop-row-init : goal.loop-row-init
 loop-row-init c =
     record {
-      supported = none_in_four c.nothing.result c.nothing-2.result c.nothing-3.result c.nothing-4.result c.nothing.ensures c.nothing-2.ensures c.nothing-3.ensures c.nothing-4.ensures;
+      supported = none_in_four c.empty.result c.empty-2.result c.empty-3.result c.empty-4.result c.empty.ensures c.empty-2.ensures c.empty-3.ensures c.empty-4.ensures;
       alive = refl;
     }

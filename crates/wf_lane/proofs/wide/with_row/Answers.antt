@@ -2,8 +2,8 @@ use Rattle.std.proofs.Common.{◌≡◌, ℕ, [], ◌∷◌, get_or, arith, refl
 use Rattle.std.specs.Prelude.{◌||◌, ◌&&◌}
 use Rattle.wf_model.specs.Lists.{has}
 use Rattle.wf_model.specs.Box.{has_at}
-use Rattle.wf_set.specs.Sets.{values_in}
-use Rattle.wf_set.proofs.Lemmas.{in_four}
+use Rattle.wf_base.specs.Set.Sets.{values_in}
+use Rattle.wf_base.proofs.OfSet.Lemmas.{in_four}
 use Rattle.wf_lane.proofs.WideLaws.{each_set}
 use Rattle.wf_lane.proofs.wide.with_row.Goals as goal
 

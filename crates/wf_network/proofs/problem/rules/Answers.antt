@@ -39,10 +39,10 @@ loop-number-preserved c =
     let seen : IsRuleOf s c.tuples-tuples.result.now rule = c.of.ensures.rule ∙ ap (λ (t : Table). record { input = s; tuples = t.rows }) table in
     let like : rule.like < length old → HasTable s c.tuples-tuples.result.now old rule.like =
     subst (λ l. l < length old → HasTable s c.tuples-tuples.result.now old l) (sym c.of.ensures.like)
-    (subst (λ rs. c.like_of-like.result < length rs → HasTable s c.tuples-tuples.result.now rs c.like_of-like.result) c.deref.ensures.value c.like_of-like.ensures.same) in (
+    (subst (λ rs. c.rule_with_table-like.result < length rs → HasTable s c.tuples-tuples.result.now rs c.rule_with_table-like.result) c.deref.ensures.value c.rule_with_table-like.ensures.same) in (
       ap (map rule_seen) c.in_ok-push.ensures.items ∙ one_more rule_seen old rule t.delta n _ c.loop-number.invariant.0 seen there,
       subst (All IsWide) (sym c.in_ok-push.ensures.items) (All-push IsWide old rule c.loop-number.invariant.1 c.of.ensures.wide),
       subst (All KeepsProcesses) (sym c.in_ok-push.ensures.items) (All-push KeepsProcesses old rule c.loop-number.invariant.2 c.of.ensures.processes),
-      subst AreAlike (sym c.in_ok-push.ensures.items) (alike_more old rule s c.tuples-tuples.result.now c.loop-number.invariant.3 seen c.of.ensures.wide (omega (arith, c.of.ensures.like, c.like_of-like.ensures.within, ap length c.deref.ensures.value)) like),
+      subst AreAlike (sym c.in_ok-push.ensures.items) (alike_more old rule s c.tuples-tuples.result.now c.loop-number.invariant.3 seen c.of.ensures.wide (omega (arith, c.of.ensures.like, c.rule_with_table-like.ensures.within, ap length c.deref.ensures.value)) like),
       omega (arith, ap length c.in_ok-push.ensures.items, length-append old (rule ∷ []), c.loop-number.invariant.4),
     )

@@ -1,6 +1,6 @@
 use Rattle.std.proofs.Common.{rules, ◌<◌, ◌^◌, ◌∙◌, All, arith, refl, subst, sym, Some, None, cond}
 use Rattle.wf_network.specs.Revising.{IsKnown, parts_in, widened}
-use Rattle.wf_network.specs.declared.memo.Revised.{Revised}
+use Rattle.wf_network.specs.declared.memo.CacheEntry.{CacheEntry}
 use Rattle.wf_network.specs.declared.revising.TheConstants.{SMALL_LIMIT}
 use Rattle.wf_network.specs.Problems.{constraints_in}
 use Rattle.wf_network.proofs.MemoLemmas.{known_now, lead_is, lead_there, packed_right}
@@ -27,5 +27,5 @@ returns-then-execution-execution_count-clause-known c =
     let supported = widened (parts_in c.word_of-supported.result) in
     let known = known_now n c.args.rule lead candidates supported c.requires.network c.requires.rule is (omega (arith, c.if-execution-execution_count.true, c.execution_count.ensures))
     (packed_right c.args.network.now c.args.rule c.index.result.now 16 (parts_in c.args.word) c.unpacked.result c.revised-parts.result (parts_in c.word_of-supported.result) c.requires.network c.requires.rule c.index.ensures c.unpacked.ensures refl (parts_low c.args.word (let small : c.args.word < 2 ^ 64 = search rules in small)) c.revised-parts.ensures.long (c.word_of-supported.ensures ∙ c.cut.ensures) c.revised-parts.ensures.supported) in
-    let seen : Revised = record { execution = lead; candidates = candidates; supported = supported } in
+    let seen : CacheEntry = record { execution = lead; candidates = candidates; supported = supported } in
     c.keep_small.ensures (constraints_in n) (subst (λ b. IsKnown (constraints_in n) (cond b None (Some seen))) (sym (lead_there n c.args.rule lead c.requires.network c.requires.rule is)) known) c.requires.known

@@ -3,7 +3,7 @@ use Rattle.std.proofs.lemmas.List.Elements.{All-get_or}
 use Rattle.wf_lane.specs.Table.{HasSupported}
 use Rattle.wf_network.specs.Problems.{constraints_in, rule_at}
 use Rattle.wf_network.specs.Revising.{IsKnown, IsKnownNibbles, nibbles_in, widened}
-use Rattle.wf_network.specs.declared.memo.Revised.{Revised}
+use Rattle.wf_network.specs.declared.memo.CacheEntry.{CacheEntry}
 use Rattle.wf_network.proofs.MemoLemmas.{known_serves, lead_is, lead_there, tiny_known}
 use Rattle.wf_network.proofs.revising.supported_nibbles.Goals as goal
 
@@ -13,7 +13,7 @@ returns-then-answer-lead-clause-supported c =
     let n = c.args.network.now in
     let known = c.index-answer.result.now in
     let answers = c.args.memo.now.tiny.items in
-    let seen : Revised = record { execution = known.execution; candidates = widened (nibbles_in known.candidates); supported = widened (nibbles_in known.supported) } in
+    let seen : CacheEntry = record { execution = known.execution; candidates = widened (nibbles_in known.candidates); supported = widened (nibbles_in known.supported) } in
     let lead = lead_is n c.args.rule c.index-lead.result.now c.requires.network c.requires.rule c.index-lead.ensures in
     let is : known.execution ≡ slice_index n.leads.items c.args.rule = c.if-answer-lead.true ∙ lead in
     let right : IsKnownNibbles (constraints_in n) known = subst (IsKnownNibbles (constraints_in n)) (sym c.index-answer.ensures)

@@ -12,12 +12,12 @@ finish-requires c =
     let ws = c.args.workers.items in
     let is = c.in_ok-seats.ensures.seats in (
       ap length is ∙ length-map ws (λ (w : Worker). w.seat) ∙ c.requires.count,
-      subst (AreSeats c.args.board) (sym is) (All-map (IsSeat c.args.board) (λ (w : Worker). w.seat) ws (All-weaker (IsWorker c.args.inquiry.problem.now c.args.inquiry.kept c.args.board) (λ w. IsSeat c.args.board w.seat) (λ w h. h.0) ws c.requires.workers)),
+      subst (AreSeats c.args.board) (sym is) (All-map (IsSeat c.args.board) (λ (w : Worker). w.seat) ws (All-weaker (IsWorker c.args.spec.problem.now c.args.spec.kept c.args.board) (λ w. IsSeat c.args.board w.seat) (λ w h. h.0) ws c.requires.workers)),
     )
 
 pub returns-clause-tells : goal.returns-clause-tells
 returns-clause-tells c =
     let e = c.finish.ensures in
-    tells c.args.inquiry.problem.now c.args.inquiry.kept c.args.board c.finish.result c.args.workers.items c.in_ok-seats.seats.items c.in_ok-seats.finds
+    tells c.args.spec.problem.now c.args.spec.kept c.args.board c.finish.result c.args.workers.items c.in_ok-seats.seats.items c.in_ok-seats.finds
     c.in_ok-seats.ensures.seats c.in_ok-seats.ensures.maps c.in_ok-seats.ensures.lines c.requires.workers c.requires.settled
     e.branches e.least e.searched e.cut e.seen

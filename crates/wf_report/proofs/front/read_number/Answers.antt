@@ -17,7 +17,7 @@ pub returns-in_default-clause-read : goal.returns-in_default-clause-read
 returns-in_default-clause-read g c = λ next.
     let f = number_then c.args.at c.args.name.now next in
     let size = c.in_ok-size.size in
-    let none : number_of_line c.args.name.now (take size c.line_ahead.new.window.pending ++ 10 ∷ []) ≡ None = ap (λ l. number_of_line c.args.name.now (l ++ 10 ∷ [])) (sym c.line.ensures) ∙ sym c.number_behind.ensures ∙ c.in_default.is in
+    let none : number_of_line c.args.name.now (take size c.line_ahead.new.window.pending ++ 10 ∷ []) ≡ None = ap (λ l. number_of_line c.args.name.now (l ++ 10 ∷ [])) (sym c.line.ensures) ∙ sym c.number_after.ensures ∙ c.in_default.is in
     read_refusing f next c.args.source.now c.line_ahead.new.source c.args.window.now c.line_ahead.new.window size
     (c.in_ok-size.ensures.line f (number_fails c.args.at c.args.name.now next c.requires.short))
     size c.args.at c.in_ok-size.ensures.front.line (number_read c.args.at c.args.name.now (take size c.line_ahead.new.window.pending) next None none)
@@ -27,7 +27,7 @@ returns-clause-read g c = λ next.
     let f = number_then c.args.at c.args.name.now next in
     let size = c.in_ok-size.size in
     let n = c.in-Some.number in
-    let some : number_of_line c.args.name.now (take size c.line_ahead.new.window.pending ++ 10 ∷ []) ≡ Some n = ap (λ l. number_of_line c.args.name.now (l ++ 10 ∷ [])) (sym c.line.ensures) ∙ sym c.number_behind.ensures ∙ c.in-Some.is in
+    let some : number_of_line c.args.name.now (take size c.line_ahead.new.window.pending ++ 10 ∷ []) ≡ Some n = ap (λ l. number_of_line c.args.name.now (l ++ 10 ∷ [])) (sym c.line.ensures) ∙ sym c.number_after.ensures ∙ c.in-Some.is in
     subst (λ w. Reads f next c.args.source.now c.line_ahead.new.source c.args.window.now w (Ok n)) (sym c.pass.ensures)
     (read_passing f next c.args.source.now c.line_ahead.new.source c.args.window.now c.line_ahead.new.window size
     (c.in_ok-size.ensures.line f (number_fails c.args.at c.args.name.now next c.requires.short))

@@ -1,7 +1,7 @@
 use Rattle.std.proofs.Common.{◌≡◌, ◌++◌, ◌∙◌, [], ◌∷◌, true, false, take, codes, option_map, ap, arith, subst, sym, Ok, Some, None, ℕ}
 use Rattle.wf_model.specs.Report.{same_text}
 use Rattle.wf_report.specs.Steps.{step_in}
-use Rattle.wf_lines.specs.Lines.{line_of}
+use Rattle.wf_base.specs.Lines.Lines.{line_of}
 use Rattle.wf_report.specs.Fronts.{FailsAt}
 use Rattle.wf_report.specs.Parts.{end_then, step_then, steps_then}
 use Rattle.wf_report.specs.Reads.{Reads}

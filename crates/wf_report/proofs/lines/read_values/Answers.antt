@@ -2,8 +2,8 @@ use Rattle.std.proofs.Common.{ℕ, List, [], ◌∷◌, ◌++◌, Some, Ok, sym,
 use Rattle.std.proofs.lemmas.List.{take_all}
 use Rattle.wf_report.specs.Parts.{PassesValue, value_then, values_then}
 use Rattle.wf_report.specs.Reads.{Parse, Reads}
-use Rattle.wf_report.specs.declared.halt.Halt.TheVariants.{Unread}
-use Rattle.wf_io.specs.declared.source.ReadFault.TheVariants as unread
+use Rattle.wf_report.specs.declared.halt.ReadStop.TheVariants.{SourceFailed}
+use Rattle.wf_base.specs.declared.streams.source.ReadFault.TheVariants as unread
 use Rattle.wf_report.proofs.InTurn.{last_value, no_memory, no_values, one_value, values_stop}
 use Rattle.wf_report.proofs.lines.read_values.Goals as goal
 
@@ -26,7 +26,7 @@ returns-in_err-keep-clause-read g c =
     let k = c.values in
     let w = c.next_value.new.window in
     let read = λ (next : List ℕ → Parse). subst (λ o. Reads (values_then next) (value_then next) k.source c.next_value.new.source k.window w (Ok o)) c.in-Some.is (c.in_ok-value.ensures.value next) in
-    values_stop c.args.source.now k.source c.next_value.new.source c.args.window.now k.window w (Unread unread.OutOfMemory) c.args.most k.invariant.done value_then c.from_residual-in_err-keep.result c.from_residual-in_err-keep.ensures
+    values_stop c.args.source.now k.source c.next_value.new.source c.args.window.now k.window w (SourceFailed unread.OutOfMemory) c.args.most k.invariant.done value_then c.from_residual-in_err-keep.result c.from_residual-in_err-keep.ensures
     k.invariant.read
     (λ next. no_memory (values_then next) (value_then next) (value_then next) k.source c.next_value.new.source k.window w (Some c.in-Some.value) (read next) c.in_ok-value.ensures.can)
 

@@ -1,7 +1,7 @@
 use Rattle.std.proofs.Common.{◌≡◌, suc, ◌+◌, ◌∙◌, ◌∷◌, [], length, length-append, map, option_map, sym, ap, arith}
 use Rattle.std.proofs.lemmas.List.{map-append}
 use Rattle.wf_model.specs.Report.{lines_of, same_text}
-use Rattle.wf_lines.specs.Lines.{line_of}
+use Rattle.wf_base.specs.Lines.Lines.{line_of}
 use Rattle.wf_report.specs.Steps.{step_in}
 use Rattle.wf_report.proofs.BodyLemmas.{after_end, at_bad, at_cut_off, at_end, at_item, gathered, items_from, none_before, steps_are, steps_of_lines}
 use Rattle.wf_report.proofs.reading.read_lines.Goals as goal

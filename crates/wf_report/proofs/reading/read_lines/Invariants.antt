@@ -1,6 +1,6 @@
 use Rattle.std.proofs.Common.{◌≡◌, ◌≤◌, ◌+◌, length, map}
 use Rattle.wf_model.specs.Report.{lines_of, steps_from}
-use Rattle.wf_lines.specs.Lines.{line_of}
+use Rattle.wf_base.specs.Lines.Lines.{line_of}
 use Rattle.wf_report.specs.Steps.{step_in}
 use Rattle.wf_report.proofs.BodyLemmas.{gathered, items_from}
 use Rattle.wf_report.proofs.reading.read_lines.Given as goal

@@ -1,5 +1,5 @@
 use Rattle.std.proofs.Common.{◌++◌, [], ◌∷◌, Ok, arith, subst}
-use Rattle.wf_lines.specs.Lines.{line_of}
+use Rattle.wf_base.specs.Lines.Lines.{line_of}
 use Rattle.wf_report.specs.Parts.{AreAny}
 use Rattle.wf_report.specs.Parts.{PassesStep, step_then, steps_then}
 use Rattle.wf_report.specs.Reads.{Reads}

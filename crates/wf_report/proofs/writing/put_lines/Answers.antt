@@ -1,8 +1,8 @@
 use Rattle.std.proofs.Common.{◌≡◌, ℕ, ◌+◌, ◌<◌, ◌++◌, List, take, map, flat_map, length, get_or, sym, ap, ◌∙◌, append_assoc}
 use Rattle.std.proofs.lemmas.Option.{slice_get-get_or}
 use Rattle.wf_model.specs.Report.{line_text}
-use Rattle.wf_lines.specs.Lines.{line_of}
-use Rattle.wf_lines.specs.declared.line.Line.{Line}
+use Rattle.wf_base.specs.Lines.Lines.{line_of}
+use Rattle.wf_base.specs.declared.lines.line.Line.{Line}
 use Rattle.wf_report.proofs.Taken.{flat_map-take}
 use Rattle.wf_report.proofs.writing.put_lines.Goals as goal
 

@@ -1,6 +1,6 @@
 use Rattle.std.proofs.Common.{◌≡◌, ◌++◌, flat_map, length, map, reverse}
 use Rattle.wf_model.specs.Report.{line_text}
-use Rattle.wf_lines.specs.Lines.{line_of}
+use Rattle.wf_base.specs.Lines.Lines.{line_of}
 use Rattle.wf_report.proofs.writing.take_lines.Given as goal
 
 abbrev pub invariant-lines : goal.invariant-lines

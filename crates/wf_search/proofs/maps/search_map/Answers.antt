@@ -2,7 +2,7 @@ use Rattle.std.proofs.Common.{◌≡◌, ◌+◌, ◌++◌, ◌∙◌, None, Som
 use Rattle.wf_model.specs.Closing.{Trace, canonical}
 use Rattle.wf_model.proofs.Lemmas.{canonical_none_refutes, canonical_least, none_refutes}
 use Rattle.wf_box.specs.Boxes.{Tracked}
-use Rattle.wf_search.specs.Pending.{Boxes, HasFirst}
+use Rattle.wf_search.specs.SearchStack.{Boxes, HasFirst}
 use Rattle.wf_search.specs.Found.{turns}
 use Rattle.wf_search.specs.Turning.{AreBoxesOf}
 use Rattle.wf_search.proofs.TurnCounts.{failed_map, turns_more}
@@ -12,14 +12,14 @@ use Rattle.wf_search.proofs.maps.search_map.Goals as goal
 pub turns-init : goal.turns-init
 turns-init g c =
     let p = c.args.problem.now in
-    let is : c.of-pending.result.boxes ≡ c.args.boxed.sets ∷ [] = ap (λ (b : Boxes). b.boxes) c.of-pending.ensures ∙ ap (λ (b : Tracked). b.sets ∷ []) c.swap_answers.ensures.same in
+    let is : c.of-pending.result.boxes ≡ c.args.boxed.sets ∷ [] = ap (λ (b : Boxes). b.boxes) c.of-pending.ensures ∙ ap (λ (b : Tracked). b.sets ∷ []) c.swap_cache.ensures.same in
     record {
       written = [];
       asked = g.met.S.Stop.unasked _;
       problem = ap (λ (b : Boxes). b.problem) c.of-pending.ensures;
       boxes = subst (AreBoxesOf p) (sym is) (c.requires.boxed.is_box, tt);
       first = subst HasFirst (sym is) refl;
-      answers = c.swap_answers.ensures.serve p c.requires.boxed;
+      answers = c.swap_cache.ensures.serve p c.requires.boxed;
       search = at_first p c.of-pending.result.boxes c.args.boxed.sets is;
     }
 

@@ -3,7 +3,7 @@ use Rattle.wf_model.specs.Refutation as refutation
 use Rattle.wf_model.specs.Closing.{before, canonical, in_turn}
 use Rattle.wf_box.specs.Boxes.{ServeFor}
 use Rattle.wf_search.specs.Found.{turns}
-use Rattle.wf_search.specs.Pending.{HasFirst}
+use Rattle.wf_search.specs.SearchStack.{HasFirst}
 use Rattle.wf_search.specs.Turning.{AreBoxesOf}
 use Rattle.wf_search.proofs.maps.search_map.Given as goal
 

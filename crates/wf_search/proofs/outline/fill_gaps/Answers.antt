@@ -1,5 +1,5 @@
 use Rattle.std.proofs.Common.{◌∙◌, ◌++◌, ◌≡◌, ap, map, inl, inr, arith}
-use Rattle.wf_lines.specs.Lines.{line_of}
+use Rattle.wf_base.specs.Lines.Lines.{line_of}
 use Rattle.wf_search.specs.Outline.{gaps_filled}
 use Rattle.wf_search.proofs.OutlineLemmas.{fill_step, fill_end, none_of}
 use Rattle.wf_search.proofs.outline.fill_gaps.Goals as goal

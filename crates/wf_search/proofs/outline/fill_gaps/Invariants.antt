@@ -1,5 +1,5 @@
 use Rattle.std.proofs.Common.{◌≡◌, ◌++◌, map}
-use Rattle.wf_lines.specs.Lines.{line_of}
+use Rattle.wf_base.specs.Lines.Lines.{line_of}
 use Rattle.wf_search.specs.Outline.{gaps_filled}
 use Rattle.wf_search.proofs.outline.fill_gaps.Given as goal
 

@@ -6,8 +6,8 @@ use Rattle.wf_simplex.specs.Adding.{joined}
 use Rattle.wf_simplex.proofs.FacesInOrder.{stood, one_joined}
 use Rattle.wf_simplex.proofs.simplex.add_joined.Goals as goal
 
-pub joined-face-requires : goal.joined-face-requires
-joined-face-requires c =
+pub with_vertex-face-requires : goal.with_vertex-face-requires
+with_vertex-face-requires c =
     let v : Vertex = (c.args.process, c.args.value) in
     let old = c.args.faces.now.items in
     let start = c.args.start in
@@ -30,7 +30,7 @@ loop-place-preserved c =
     let inside : place < length old = omega (arith, c.loop-place-test.true, c.len-end.ensures, c.args.faces.now.ok.0) in
     record {
       added = one_joined v old start place c.loop-place.auto.place inside c.loop-place.faces.items c.push_reserved-in-loop-place.new.self.items face inv.added c.index.ensures
-          (made.items ∙ ap (λ f. c.loop-place.faces.items ++ (f ∷ [])) c.joined-face.ensures);
+          (made.items ∙ ap (λ f. c.loop-place.faces.items ++ (f ∷ [])) c.with_vertex-face.ensures);
       count = omega (arith, made.len, inv.count);
       capacity = made.capacity ∙ inv.capacity;
     }

@@ -4,7 +4,7 @@ use Rattle.serde_json.specs.Data.{array}
 use Rattle.serde_json.specs.View.{view, items_of}
 use Rattle.serde_json.proofs.Views.{view-Array}
 use Rattle.wf_task.specs.Canonical.{rule_data}
-use Rattle.wf_draft.specs.Shape.{rule_of}
+use Rattle.wf_task_parse.specs.Shape.{rule_of}
 use Rattle.wf_task.specs.TaskSeen.{rules_seen}
 use Rattle.wf_task.proofs.TaskSeen.{length-rules_seen}
 use Rattle.wf_task.proofs.CanonicalLoops.{rules_more, mapped_more}

@@ -9,7 +9,7 @@ pub vertex-requires-clause-place : goal.vertex-requires-clause-place
 vertex-requires-clause-place c =
     let s = c.args.simplex.now in
     let low : c.loop-place.place < length s - 1 = omega (arith, c.loop-place-test.true, c.colours-size.ensures.count) in
-    subst (λ k. k < length s) (sym c.skipping.ensures) (before_below c.args.left_out c.loop-place.place (length s) c.requires.place low)
+    subst (λ k. k < length s) (sym c.index_before_removal.ensures) (before_below c.args.left_out c.loop-place.place (length s) c.requires.place low)
 
 pub loop-place-preserved : goal.loop-place-preserved
 loop-place-preserved c =
@@ -18,7 +18,7 @@ loop-place-preserved c =
     let room : c.loop-place.place < length c.loop-place.pairs = omega (arith, c.loop-place-test.true, c.colours-size.ensures.few, c.loop-place.invariant.four) in
     record {
       four = length-set c.loop-place.pairs c.loop-place.place _ ∙ c.loop-place.invariant.four;
-      made = kept_step c.loop-place.pairs s c.args.left_out c.loop-place.place c.vertex.result c.requires.place low room (c.vertex.ensures ∙ ap (λ k. get_or s k (0, 0)) c.skipping.ensures) c.loop-place.invariant.made;
+      made = kept_step c.loop-place.pairs s c.args.left_out c.loop-place.place c.vertex.result c.requires.place low room (c.vertex.ensures ∙ ap (λ k. get_or s k (0, 0)) c.index_before_removal.ensures) c.loop-place.invariant.made;
     }
 
 pub unreachable-requires : goal.unreachable-requires

@@ -1,5 +1,5 @@
 use Rattle.std.proofs.Common.{◌≡◌, ◌≤◌, length, map, take, vec_len, vec_capacity}
-use Rattle.wf_draft.specs.DraftSeen.{pairs_seen}
+use Rattle.wf_task_parse.specs.DraftSeen.{pairs_seen}
 use Rattle.wf_task.proofs.complexes.complex.Given as goal
 
 abbrev pub invariant-loop-simplex : goal.invariant-loop-simplex

@@ -1,6 +1,6 @@
 use Rattle.std.proofs.Common.{length, ap, arith}
 use Rattle.std.proofs.lemmas.List.{length-map}
-use Rattle.wf_draft.specs.DraftSeen.{entry_seen}
+use Rattle.wf_task_parse.specs.DraftSeen.{entry_seen}
 use Rattle.wf_task.proofs.Sizes.{more_than_left}
 use Rattle.wf_task.proofs.complexes.has_more_tuples.Goals as goal
 

@@ -1,5 +1,5 @@
 use Rattle.std.proofs.Common.{◌≡◌, ◌≤◌, length, map, take, vec_items, vec_len, vec_capacity}
-use Rattle.wf_draft.specs.DraftSeen.{entry_seen}
+use Rattle.wf_task_parse.specs.DraftSeen.{entry_seen}
 use Rattle.wf_task.specs.Tuples.{rows_at}
 use Rattle.wf_task.proofs.rows.all_rows.Given as goal
 

@@ -1,6 +1,6 @@
 use Rattle.std.proofs.Common.{Contains, not, sym, ap, ◌∙◌, subst}
 use Rattle.wf_model.specs.Task.{IsSimplexWithin}
-use Rattle.wf_draft.specs.DraftSeen.{entry_seen}
+use Rattle.wf_task_parse.specs.DraftSeen.{entry_seen}
 use Rattle.wf_task.specs.Judge.{is_among}
 use Rattle.wf_task.proofs.EntrySlots.{among-there, entry_within, stray_here, not_both}
 use Rattle.wf_task.proofs.TupleLemmas.{first_later}

@@ -1,6 +1,6 @@
 use Rattle.std.proofs.Common.{◌≡◌, map, drop, not}
 use Rattle.std.specs.List.{position_from}
-use Rattle.wf_draft.specs.DraftSeen.{entry_seen}
+use Rattle.wf_task_parse.specs.DraftSeen.{entry_seen}
 use Rattle.wf_task.specs.Judge.{is_among}
 use Rattle.wf_task.proofs.slots.first_stray.Given as goal
 

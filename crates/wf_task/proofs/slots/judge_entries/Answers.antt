@@ -1,7 +1,7 @@
 use Rattle.std.proofs.Common.{◌==◌, not, nat_lt, length, map, refl, sym, ap, ◌∙◌, arith}
 use Rattle.std.specs.List.{position_from}
 use Rattle.std.proofs.lemmas.List.{length-map}
-use Rattle.wf_draft.specs.DraftSeen.{entry_seen}
+use Rattle.wf_task_parse.specs.DraftSeen.{entry_seen}
 use Rattle.wf_task.specs.Judge.{entries_judged, is_among}
 use Rattle.wf_task.specs.Slots.{entries_in}
 use Rattle.wf_task.proofs.Bounds.{place_below}

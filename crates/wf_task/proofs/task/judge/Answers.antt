@@ -3,9 +3,9 @@ use Rattle.std.proofs.lemmas.Bool.{eqb-false, not-false}
 use Rattle.std.proofs.lemmas.List.{length-map}
 use Rattle.wf_model.specs.Simplex.{Simplex, complex_of}
 use Rattle.wf_model.specs.Task.{IsSimplexWithin}
-use Rattle.wf_task.specs.declared.slots.Slot.{Slot}
-use Rattle.wf_draft.specs.declared.fault.TaskFault.TheVariants as fault
-use Rattle.wf_draft.specs.DraftSeen.{draft_seen, pairs_seen, entry_seen}
+use Rattle.wf_task.specs.declared.slots.EntryCount.{EntryCount}
+use Rattle.wf_task_parse.specs.declared.fault.TaskFault.TheVariants as fault
+use Rattle.wf_task_parse.specs.DraftSeen.{draft_seen, pairs_seen, entry_seen}
 use Rattle.wf_task.specs.Judge.{is_first_block, sizes_judged, tuples_judged}
 use Rattle.wf_task.specs.Slots.{AreOf, AreOnly}
 use Rattle.wf_task.proofs.Judged.{passed_last, are_judged, inputs_within, outputs_within}
@@ -41,7 +41,7 @@ judge_tuples-requires-clause-only c =
     let slots = c.in_ok-slots.slots.items in
     let inputs = c.in_ok-inputs.inputs in
     let of : AreOf slots listed.delta inputs = subst (λ es. AreOf slots (map entry_seen es) inputs) c.deref-2.ensures.value c.in_ok-slots.ensures in
-    subst₂ (λ (ss : List Slot) (is : List Simplex). AreOnly ss listed.delta is) (sym c.deref-5.ensures.value) (sym c.simplices-2.ensures.simplices) (only_entries slots listed inputs c.in_ok-judge_entries.field-0 of c.in_ok-judge_entries.ensures)
+    subst₂ (λ (ss : List EntryCount) (is : List Simplex). AreOnly ss listed.delta is) (sym c.deref-5.ensures.value) (sym c.simplices-2.ensures.simplices) (only_entries slots listed inputs c.in_ok-judge_entries.field-0 of c.in_ok-judge_entries.ensures)
 
 pub judge_tuples-requires-clause-small : goal.judge_tuples-requires-clause-small
 judge_tuples-requires-clause-small c =

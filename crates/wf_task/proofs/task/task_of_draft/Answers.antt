@@ -2,7 +2,7 @@ use Rattle.std.proofs.Common.{◌≡◌, All, map, flat_map, vec_items, sym, ap,
 use Rattle.wf_model.specs.Simplex.{values_of, complex_of}
 use Rattle.wf_model.specs.Task.{IsTask}
 use Rattle.wf_task.specs.Canonical.{HasFewFacets}
-use Rattle.wf_draft.specs.DraftSeen.{draft_seen, entry_seen}
+use Rattle.wf_task_parse.specs.DraftSeen.{draft_seen, entry_seen}
 use Rattle.wf_task.specs.Mask.{IsMaskOf}
 use Rattle.wf_task.specs.TaskSeen.{rules_seen, task_with_block}
 use Rattle.wf_task.specs.Tuples.{NamesRows, rows_at}
@@ -26,7 +26,7 @@ invariant_of-result c =
     let rows = map vec_items c.in_ok-tuples.tuples.items in
     let made : rows ≡ map (rows_at listed.delta) c.args.slots.now = c.in_ok-tuples.ensures ∙ ap (λ es. map (rows_at (map entry_seen es)) c.args.slots.now) c.deref.ensures.value in
     let rules = rules_of_faultless listed c.args.slots.now c.args.inputs rows c.requires.faultless c.requires.inputs c.requires.slots made in
-    let kept = ap (λ o. task_with_block o listed.processes listed.symmetric c.args.inputs rows c.args.outputs) c.narrow.ensures in
+    let kept = ap (λ o. task_with_block o listed.processes listed.symmetric c.args.inputs rows c.args.outputs) c.to_u8.ensures in
     let seen = task_is listed (rules_seen c.args.inputs rows) c.args.outputs _ kept rules c.requires.outputs in
     let mask = subst (λ os. IsMaskOf c.mask-values.result (flat_map values_of os)) c.simplices.ensures.simplices c.mask-values.ensures in
     record {
@@ -42,5 +42,5 @@ returns c =
     let rows = map vec_items c.in_ok-tuples.tuples.items in
     let made : rows ≡ map (rows_at listed.delta) c.args.slots.now = c.in_ok-tuples.ensures ∙ ap (λ es. map (rows_at (map entry_seen es)) c.args.slots.now) c.deref.ensures.value in
     let rules = rules_of_faultless listed c.args.slots.now c.args.inputs rows c.requires.faultless c.requires.inputs c.requires.slots made in
-    let kept = ap (λ o. task_with_block o listed.processes listed.symmetric c.args.inputs rows c.args.outputs) c.narrow.ensures in
+    let kept = ap (λ o. task_with_block o listed.processes listed.symmetric c.args.inputs rows c.args.outputs) c.to_u8.ensures in
     task_is listed (rules_seen c.args.inputs rows) c.args.outputs _ kept rules c.requires.outputs

@@ -1,5 +1,5 @@
 use Rattle.std.proofs.Common.{◌≡◌, drop}
-use Rattle.wf_draft.specs.DraftSeen.{draft_seen}
+use Rattle.wf_task_parse.specs.DraftSeen.{draft_seen}
 use Rattle.wf_task.specs.Judge.{first_answer, no_output}
 use Rattle.wf_task.proofs.tuples.first_no_output.Given as goal
 

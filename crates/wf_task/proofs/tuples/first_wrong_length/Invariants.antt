@@ -1,5 +1,5 @@
 use Rattle.std.proofs.Common.{◌≡◌, drop}
-use Rattle.wf_draft.specs.DraftSeen.{draft_seen}
+use Rattle.wf_task_parse.specs.DraftSeen.{draft_seen}
 use Rattle.wf_task.specs.Judge.{first_answer, wrong_length}
 use Rattle.wf_task.proofs.tuples.first_wrong_length.Given as goal
 

@@ -1,5 +1,5 @@
 use Rattle.std.proofs.Common.{sym, arith}
-use Rattle.wf_draft.specs.DraftSeen.{draft_seen}
+use Rattle.wf_task_parse.specs.DraftSeen.{draft_seen}
 use Rattle.wf_task.specs.Judge.{wrong_length, no_output}
 use Rattle.wf_task.proofs.Bounds.{answers, wrong_place, stray_place}
 use Rattle.wf_task.proofs.tuples.judge_tuples.Goals as goal

@@ -1,8 +1,8 @@
 use Rattle.std.proofs.Common.{◌+◌, ◌-◌, ◌<◌, ◌∷◌, drop, length, map, sym, ap, ◌∙◌, subst, arith, vec_items}
 use Rattle.std.proofs.lemmas.Bool.{ltb-true}
-use Rattle.wf_trees.specs.Trees.{case_node, cover_node, split_node}
-use Rattle.wf_refine.specs.AtHand.{at_hand}
-use Rattle.wf_cover.specs.Faults.{moves_seen}
+use Rattle.wf_tree_model.specs.Trees.{case_node, cover_node, split_node}
+use Rattle.wf_tree_refine.specs.AtHand.{at_hand}
+use Rattle.wf_tree_steps.specs.Cover.Faults.{moves_seen}
 use Rattle.wf_tree_text.specs.Seen.{node_seen, nodes_seen}
 use Rattle.wf_tree_check.specs.Judge.{judged}
 use Rattle.wf_tree_check.specs.Walk.{IsEntered, levels_of}

@@ -1,6 +1,6 @@
 use Rattle.std.proofs.Common.{map, sym, ◌∙◌, arith, vec_items}
 use Rattle.std.proofs.lemmas.List.{length-map}
-use Rattle.wf_cover.specs.Faults.{moves_seen}
+use Rattle.wf_tree_steps.specs.Cover.Faults.{moves_seen}
 use Rattle.wf_tree_check.proofs.Entering.{cover_none, cover_past}
 use Rattle.wf_tree_check.proofs.enter.enter_cover.Goals as goal
 

@@ -1,7 +1,7 @@
 use Rattle.std.proofs.Common.{Err, map, sym, ◌∙◌, subst, arith, suc, ◌∷◌, vec_items}
 use Rattle.std.proofs.lemmas.List.{length-map}
-use Rattle.wf_refine.specs.AtHand.{at_hand}
-use Rattle.wf_trees.specs.Trees.{split_node}
+use Rattle.wf_tree_refine.specs.AtHand.{at_hand}
+use Rattle.wf_tree_model.specs.Trees.{split_node}
 use Rattle.wf_tree_check.specs.Judge.{judged}
 use Rattle.wf_tree_check.specs.Walk.{IsEntered}
 use Rattle.wf_tree_check.proofs.Entering.{split_made, split_past, split_refused}

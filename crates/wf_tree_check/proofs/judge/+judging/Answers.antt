@@ -1,14 +1,14 @@
 use Rattle.std.proofs.Common.{map, ap, arith, vec_items}
 use Rattle.std.proofs.lemmas.Result.{err_from_is_err_and}
-use Rattle.wf_counting.specs.Rules.{rule_at}
-use Rattle.wf_trees.specs.Cases.{components}
-use Rattle.wf_refine.specs.AtHand.{at_hand}
+use Rattle.wf_tree_model.specs.Counting.Rules.{rule_at}
+use Rattle.wf_tree_model.specs.Cases.{components}
+use Rattle.wf_tree_refine.specs.AtHand.{at_hand}
 use Rattle.wf_tree_text.specs.Seen.{nodes_seen}
 use Rattle.wf_tree_check.proofs.Walking.{case_judged, case_refused}
 use Rattle.wf_tree_check.proofs.judge.+judging.Goals as goal
 
-pub judge_each-returns-in_err-next : goal.judge_each-returns-in_err-next
-judge_each-returns-in_err-next m c =
+pub check_cases-returns-in_err-next : goal.check_cases-returns-in_err-next
+check_cases-returns-in_err-next m c =
     let t = at_hand c.args.walk.now.task.now (map vec_items c.args.rows.now) in
     let nodes = nodes_seen c.args.walk.now.nodes.now in
     let rule = rule_at t c.args.cases.simplex in
@@ -20,8 +20,8 @@ judge_each-returns-in_err-next m c =
     (case_refused nodes c.args.levels c.args.cases.simplex t (at_hand c.args.walk.now.task.now (map vec_items c.deref.result.now)) (at_hand c.args.walk.now.task.now (map vec_items c.in_ok-part.part.items)) (components rule) c.parts.number c.args.place c.parts.next (omega (arith, low, count)) part c.in_ok-part.ensures.case c.parts.invariant
     c.in_err-next.field-0.0 c.in_err-next.ensures)
 
-pub judge_each-parts-preserved : goal.judge_each-parts-preserved
-judge_each-parts-preserved m c =
+pub check_cases-parts-preserved : goal.check_cases-parts-preserved
+check_cases-parts-preserved m c =
     let t = at_hand c.args.walk.now.task.now (map vec_items c.args.rows.now) in
     let nodes = nodes_seen c.args.walk.now.nodes.now in
     let rule = rule_at t c.args.cases.simplex in

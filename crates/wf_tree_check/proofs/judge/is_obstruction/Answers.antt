@@ -1,7 +1,7 @@
 use Rattle.wf_model.specs.DecisionMap.{HasNoDecisionMap}
 use Rattle.std.proofs.Common.{ℕ, ◌≡◌}
-use Rattle.wf_trees.specs.Trees.{IsObstruction, Tree, nodes_of}
-use Rattle.wf_trees.proofs.Lemmas.{obstruction_leaves_no_map}
+use Rattle.wf_tree_model.specs.Trees.{IsObstruction, Tree, nodes_of}
+use Rattle.wf_tree_model.proofs.Lemmas.{obstruction_leaves_no_map}
 use Rattle.wf_tree_text.specs.Seen.{nodes_seen}
 use Rattle.wf_tree_check.specs.Judge.{fault_of}
 use Rattle.wf_tree_check.proofs.Judged.{accepted}

@@ -1,7 +1,7 @@
 use Rattle.std.proofs.Common.{map, sym, ap, ◌∙◌, arith, vec_items}
 use Rattle.std.proofs.lemmas.List.{length-map}
 use Rattle.std.proofs.lemmas.Result.{err_from_is_err_and}
-use Rattle.wf_refine.specs.AtHand.{at_hand}
+use Rattle.wf_tree_refine.specs.AtHand.{at_hand}
 use Rattle.wf_tree_text.specs.Seen.{node_seen, nodes_seen}
 use Rattle.wf_tree_check.specs.Judge.{ended, fault_of, judged}
 use Rattle.wf_tree_check.proofs.Walking.{behind_is, ended_is, fault_is, refused_is}
@@ -11,7 +11,7 @@ pub returns-in_err-end : goal.returns-in_err-end
 returns-in_err-end c =
     let ns = nodes_seen c.args.nodes.now in
     let long = length-map c.args.nodes.now node_seen in
-    let few = c.if-nodes-gt-MOST_NODES.false in
+    let few = c.if-nodes-gt-MAX_NODES.false in
     let one = c.if-first_block-ne1.false in
     let p = err_from_is_err_and c.from_residual-in_err-end.result c.from_residual-in_err-end.ensures.1 in
     let same = ap (λ rows. at_hand c.args.task.now (map vec_items rows)) c.deref.ensures.value ∙ c.in_ok-rows.ensures.same in
@@ -23,7 +23,7 @@ pub returns-then-end-nodes : goal.returns-then-end-nodes
 returns-then-end-nodes c =
     let ns = nodes_seen c.args.nodes.now in
     let long = length-map c.args.nodes.now node_seen in
-    let few = c.if-nodes-gt-MOST_NODES.false in
+    let few = c.if-nodes-gt-MAX_NODES.false in
     let one = c.if-first_block-ne1.false in
     let low = c.if-end-nodes.true in
     let same = ap (λ rows. at_hand c.args.task.now (map vec_items rows)) c.deref.ensures.value ∙ c.in_ok-rows.ensures.same in
@@ -34,7 +34,7 @@ pub returns : goal.returns
 returns c =
     let ns = nodes_seen c.args.nodes.now in
     let long = length-map c.args.nodes.now node_seen in
-    let few = c.if-nodes-gt-MOST_NODES.false in
+    let few = c.if-nodes-gt-MAX_NODES.false in
     let one = c.if-first_block-ne1.false in
     let high = c.if-end-nodes.false in
     let same = ap (λ rows. at_hand c.args.task.now (map vec_items rows)) c.deref.ensures.value ∙ c.in_ok-rows.ensures.same in

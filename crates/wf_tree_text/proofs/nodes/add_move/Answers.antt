@@ -1,6 +1,6 @@
 use Rattle.std.proofs.Common.{◌-◌, refl, arith}
 use Rattle.std.specs.Vec.{vec_len}
-use Rattle.wf_cover.specs.Faults.{move_seen}
+use Rattle.wf_tree_steps.specs.Cover.Faults.{move_seen}
 use Rattle.wf_tree_text.specs.Text.{with_move}
 use Rattle.wf_tree_text.proofs.LastNode.{at_last_changed}
 use Rattle.wf_tree_text.proofs.nodes.add_move.Goals as goal

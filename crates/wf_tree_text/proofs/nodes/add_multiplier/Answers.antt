@@ -1,6 +1,6 @@
 use Rattle.std.proofs.Common.{◌-◌, refl, arith}
 use Rattle.std.specs.Vec.{vec_len}
-use Rattle.wf_balance.specs.Multipliers.{multiplier_seen}
+use Rattle.wf_tree_steps.specs.Balance.Multipliers.{multiplier_seen}
 use Rattle.wf_tree_text.specs.Text.{with_multiplier}
 use Rattle.wf_tree_text.proofs.LastNode.{at_last_changed}
 use Rattle.wf_tree_text.proofs.nodes.add_multiplier.Goals as goal

@@ -1,6 +1,6 @@
 use Rattle.std.proofs.Common.{◌∙◌, sym, ap}
 use Rattle.std.specs.Option.{option_copied}
-use Rattle.wf_cover.specs.Faults.{move_seen}
+use Rattle.wf_tree_steps.specs.Cover.Faults.{move_seen}
 use Rattle.wf_tree_text.specs.Text.{move_key}
 use Rattle.wf_tree_text.proofs.LastNode.{follows_last}
 use Rattle.wf_tree_text.proofs.nodes.may_follow_moves.Goals as goal

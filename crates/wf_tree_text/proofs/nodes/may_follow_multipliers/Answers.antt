@@ -1,6 +1,6 @@
 use Rattle.std.proofs.Common.{◌∙◌, sym, ap}
 use Rattle.std.specs.Option.{option_copied}
-use Rattle.wf_balance.specs.Multipliers.{multiplier_seen}
+use Rattle.wf_tree_steps.specs.Balance.Multipliers.{multiplier_seen}
 use Rattle.wf_tree_text.specs.Text.{multiplier_key}
 use Rattle.wf_tree_text.proofs.LastNode.{follows_last}
 use Rattle.wf_tree_text.proofs.nodes.may_follow_multipliers.Goals as goal

@@ -1,5 +1,5 @@
 use Rattle.std.proofs.Common.{◌≡◌, ◌++◌, drop, flat_map, map, string_bytes}
-use Rattle.wf_balance.specs.Multipliers.{multipliers_seen}
+use Rattle.wf_tree_steps.specs.Balance.Multipliers.{multipliers_seen}
 use Rattle.wf_tree_text.specs.Text.{line_text, multiplier_at}
 use Rattle.wf_tree_text.proofs.writing.put_balance.Given as goal
 

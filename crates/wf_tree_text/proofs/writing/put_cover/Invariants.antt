@@ -1,5 +1,5 @@
 use Rattle.std.proofs.Common.{◌≡◌, ◌++◌, drop, flat_map, map, string_bytes}
-use Rattle.wf_cover.specs.Faults.{moves_seen}
+use Rattle.wf_tree_steps.specs.Cover.Faults.{moves_seen}
 use Rattle.wf_tree_text.specs.Text.{line_text, move_at}
 use Rattle.wf_tree_text.proofs.writing.put_cover.Given as goal
 

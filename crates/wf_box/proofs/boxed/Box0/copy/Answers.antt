@@ -1,7 +1,7 @@
 use Rattle.std.proofs.Common.{◌≡◌, Some, length, map, IfSome, ap, sym, ◌∙◌, refl}
 use Rattle.std.proofs.lemmas.List.{length-map}
 use Rattle.std.specs.List.{each_same}
-use Rattle.wf_set.specs.Sets.{box_of, values_in}
+use Rattle.wf_base.specs.Set.Sets.{box_of, values_in}
 use Rattle.wf_box.specs.Boxes.{Tracked, change_seen}
 use Rattle.wf_box.proofs.CloseLemmas.{is_box}
 use Rattle.wf_box.proofs.SeenLemmas.{copied_for}

@@ -1,6 +1,6 @@
 use Rattle.std.proofs.Common.{◌≡◌, ap, sym, subst, ◌∙◌, refl}
 use Rattle.wf_model.specs.Laws.{IsBoxOf}
-use Rattle.wf_set.specs.Sets.{box_of}
+use Rattle.wf_base.specs.Set.Sets.{box_of}
 use Rattle.wf_box.specs.Boxes.{Tracked}
 use Rattle.wf_box.specs.Kept.{box_kept}
 use Rattle.wf_box.proofs.SeenLemmas.{copied_for, if_closed}

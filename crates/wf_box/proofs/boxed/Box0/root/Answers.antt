@@ -1,12 +1,12 @@
 use Rattle.std.proofs.Common.{map, length, ap, replicate, sym, subst, ◌∙◌}
 use Rattle.std.proofs.lemmas.List.{length-replicate}
 use Rattle.std.specs.List.{each_same}
-use Rattle.wf_set.specs.Sets.{values_in}
+use Rattle.wf_base.specs.Set.Sets.{values_in}
 use Rattle.wf_network.specs.Revising.{AreKnown}
 use Rattle.wf_box.proofs.CloseLemmas.{is_box}
 use Rattle.wf_box.proofs.SeenLemmas.{known_none}
 use Rattle.wf_box.proofs.boxed.Box0.root.Goals as goal
-use Rattle.wf_set.proofs.Lemmas.{same_sets}
+use Rattle.wf_base.proofs.OfSet.Lemmas.{same_sets}
 
 pub returns-clause-root : goal.returns-clause-root
 returns-clause-root c =

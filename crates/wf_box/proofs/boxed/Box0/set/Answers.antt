@@ -1,7 +1,7 @@
 use Rattle.std.proofs.Common.{ap, sym, ◌∙◌, ◌∷◌, [], refl, length, subst, length-set}
 use Rattle.wf_network.specs.Revising.{answers_in}
 use Rattle.std.proofs.lemmas.List.{length-map}
-use Rattle.wf_set.specs.Sets.{box_of, values_in}
+use Rattle.wf_base.specs.Set.Sets.{box_of, values_in}
 use Rattle.wf_box.specs.Boxes.{Grows, IsFor, Tracked}
 use Rattle.wf_box.proofs.CloseLemmas.{is_box}
 use Rattle.wf_box.proofs.SeenLemmas.{grown_seen, still_for, tracked_seen}

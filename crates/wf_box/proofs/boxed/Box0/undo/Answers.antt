@@ -2,7 +2,7 @@ use Rattle.std.proofs.Common.{◌≡◌, ap, drop, map, sym, take, ◌∙◌, �
 use Rattle.wf_network.specs.Revising.{answers_in}
 use Rattle.std.proofs.lemmas.List.{length-map, take-map}
 use Rattle.std.specs.Bool.{OnTrue}
-use Rattle.wf_set.specs.Sets.{box_of, values_in}
+use Rattle.wf_base.specs.Set.Sets.{box_of, values_in}
 use Rattle.wf_box.specs.Boxes.{IsFor, Tracked, WasClosed, box_after, change_seen, closed_if}
 use Rattle.wf_box.proofs.CloseLemmas.{is_box}
 use Rattle.wf_box.proofs.QuietLemmas.{length_back}

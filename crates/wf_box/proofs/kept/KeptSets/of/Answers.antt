@@ -1,6 +1,6 @@
 use Rattle.std.proofs.Common.{nat_lt, map, ap, sym, ◌∙◌}
-use Rattle.wf_set.specs.Parts.{part_limit, part_values}
-use Rattle.wf_set.specs.Sets.{box_of}
+use Rattle.wf_base.specs.Set.Parts.{part_limit, part_values}
+use Rattle.wf_base.specs.Set.Sets.{box_of}
 use Rattle.wf_box.proofs.KeptLemmas.{each_stays}
 use Rattle.wf_box.proofs.kept.KeptSets.of.Goals as goal
 

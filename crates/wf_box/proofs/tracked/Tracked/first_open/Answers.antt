@@ -1,7 +1,7 @@
 use Rattle.std.proofs.Common.{ap, sym, ◌∙◌, drop, List, ℕ}
 use Rattle.std.proofs.lemmas.List.{take_rest}
 use Rattle.wf_model.specs.Box.{first_open}
-use Rattle.wf_set.specs.Sets.{box_of}
+use Rattle.wf_base.specs.Set.Sets.{box_of}
 use Rattle.wf_box.proofs.ChangeLemmas.{open_later, shifted}
 use Rattle.wf_box.proofs.tracked.Tracked.first_open.Goals as goal
 

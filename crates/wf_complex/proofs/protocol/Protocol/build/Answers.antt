@@ -9,8 +9,8 @@ use Rattle.wf_complex.specs.Protocol.{Built, Builds}
 use Rattle.wf_complex.proofs.Executions.{length-executions}
 use Rattle.wf_complex.proofs.protocol.Protocol.build.Goals as goal
 
-pub returns-then-execution_count-gt-MOST_EXECUTIONS : goal.returns-then-execution_count-gt-MOST_EXECUTIONS
-returns-then-execution_count-gt-MOST_EXECUTIONS c =
+pub returns-then-execution_count-gt-MAX_EXECUTIONS : goal.returns-then-execution_count-gt-MAX_EXECUTIONS
+returns-then-execution_count-gt-MAX_EXECUTIONS c =
     let t = c.args.task.now in
     let long = length-executions t c.args.rounds ∙ sym (λ i. execution_total (c.first_block-first_block.ensures.first_block i) c.args.rounds ((c.simplices-inputs.ensures.simplices ∙ c.inputs.ensures.inputs) i)) in
     (omega arith, omega (arith, long, c.execution_count.ensures.count))

@@ -14,13 +14,13 @@ normal_already : (c : Then-are_lowest) → (c.args.id ≡ number_of c.args.self.
 normal_already c =
     let vs = c.args.self.now in
     normal_at vs c.args.id (apart_by_place vs (apart_in_table c.self.inside.nodes.keys c.self.invariant.entries c.self.invariant.once vs c.self.view_is)) c.requires.id
-    (ap are_lowest (sym c.colours_in-processes.ensures.bits) ∙ sym c.are_lowest.ensures ∙ c.if-are_lowest.true)
+    (ap are_lowest (sym c.colours_in-processes.ensures.bits) ∙ sym c.has_no_gap.ensures ∙ c.if-has_no_gap.true)
 
-pub returns-then-are_lowest-clause-number : goal.returns-then-are_lowest-clause-number
-returns-then-are_lowest-clause-number c = (normal_already c).0
+pub returns-then-has_no_gap-clause-number : goal.returns-then-has_no_gap-clause-number
+returns-then-has_no_gap-clause-number c = (normal_already c).0
 
-pub returns-then-are_lowest-clause-stands : goal.returns-then-are_lowest-clause-stands
-returns-then-are_lowest-clause-stands c = (normal_already c).1
+pub returns-then-has_no_gap-clause-stands : goal.returns-then-has_no_gap-clause-stands
+returns-then-has_no_gap-clause-stands c = (normal_already c).1
 
 pub loop-old-init : goal.loop-old-init
 loop-old-init c =
@@ -81,12 +81,12 @@ loop-old-preserved c =
     renaming_more c.args.self.now c.loop-old.self c.colours_in-processes.result c.args.id c.deref-old-items.result.now c.loop-old.numbers.items c.loop-old.old-index is c.loop-old.invariant
     c.put_renamed.new.self c.push.new.self.items c.in_ok-number.number c.loop-old-test.true c.in_ok-number.ensures.table c.in_ok-number.ensures.stands c.in_ok-push.ensures.items
 
-pub number_beside-requires-clause-fewer : goal.number_beside-requires-clause-fewer
-number_beside-requires-clause-fewer c =
+pub new_id-requires-clause-fewer : goal.new_id-requires-clause-fewer
+new_id-requires-clause-fewer c =
     omega (arith, c.loop-old.invariant.long, c.loop-old.auto.old-index-end, ap length c.deref-2.ensures.value, ap length c.deref-3.ensures.value, ap length c.deref-old-items.ensures.value)
 
-pub number_beside-requires-clause-known : goal.number_beside-requires-clause-known
-number_beside-requires-clause-known c =
+pub new_id-requires-clause-known : goal.new_id-requires-clause-known
+new_id-requires-clause-known c =
     let is = subst (AreInside c.args.self.now c.args.id) (sym c.deref-old-items.ensures.value) c.in_ok-inside.ensures in
     let known = itself_known c.args.self.now c.loop-old.self c.colours_in-processes.result c.args.id c.deref-old-items.result.now c.loop-old.numbers.items c.loop-old.old-index is c.loop-old.invariant c.loop-old-test.false in
     subst (λ xs. has (take (length c.deref-3.result.now) xs) c.args.id ≡ true) (c.deref-old-items.ensures.value ∙ sym c.deref-2.ensures.value)
@@ -98,12 +98,12 @@ returns-clause-grows c =
     grows c.args.self.now c.loop-old.self c.colours_in-processes.result c.args.id c.deref-old-items.result.now c.loop-old.numbers.items c.loop-old.old-index is c.loop-old.invariant
     c.loop-old.self refl c.loop-old.auto.old-index-end
 
-normal_numbered : (c : goal.After-drop-inside-2) → (c.number_beside.result ≡ number_of c.loop-old.self (normal (view_at c.args.self.now c.args.id))) × (slice_get c.loop-old.self c.number_beside.result ≡ Some (normal (view_at c.args.self.now c.args.id)))
+normal_numbered : (c : goal.After-drop-inside-2) → (c.new_id.result ≡ number_of c.loop-old.self (normal (view_at c.args.self.now c.args.id))) × (slice_get c.loop-old.self c.new_id.result ≡ Some (normal (view_at c.args.self.now c.args.id)))
 normal_numbered c =
     let is = subst (AreInside c.args.self.now c.args.id) (sym c.deref-old-items.ensures.value) c.in_ok-inside.ensures in
     let items : c.deref-2.result.now ≡ c.deref-old-items.result.now = c.deref-2.ensures.value ∙ sym c.deref-old-items.ensures.value in
     renaming_all c.args.self.now c.loop-old.self c.colours_in-processes.result c.args.id c.deref-old-items.result.now c.loop-old.numbers.items c.loop-old.old-index is c.loop-old.invariant
-    c.number_beside.result (c.number_beside.ensures ∙ (λ i. number_beside (items i) (c.deref-3.ensures.value i) c.args.id)) c.loop-old-test.false c.requires.id c.colours_in-processes.ensures.bits
+    c.new_id.result (c.new_id.ensures ∙ (λ i. number_beside (items i) (c.deref-3.ensures.value i) c.args.id)) c.loop-old-test.false c.requires.id c.colours_in-processes.ensures.bits
 
 pub returns-clause-number : goal.returns-clause-number
 returns-clause-number c = (normal_numbered c).0

@@ -1,6 +1,6 @@
 use Rattle.std.proofs.Common.{◌≡◌, length}
 use Rattle.std.specs.Prelude.{bit_or}
-use Rattle.wf_set.specs.Parts.{part_values}
+use Rattle.wf_base.specs.Set.Parts.{part_values}
 use Rattle.wf_lane.specs.Rows.{OccurIn}
 use Rattle.wf_lane.proofs.FewLemmas.{early}
 use Rattle.wf_lane.proofs.column.Column.early_among.Given as goal

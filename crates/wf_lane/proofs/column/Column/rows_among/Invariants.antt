@@ -1,7 +1,7 @@
 use Rattle.std.proofs.Common.{◌≡◌, length}
 use Rattle.std.specs.Prelude.{bit_or}
 use Rattle.std.specs.Simd.Lanes.{zip2}
-use Rattle.wf_set.specs.Parts.{part_values}
+use Rattle.wf_base.specs.Set.Parts.{part_values}
 use Rattle.wf_lane.specs.Rows.{OccurIn}
 use Rattle.wf_lane.proofs.BlockLemmas.{among}
 use Rattle.wf_lane.proofs.column.Column.rows_among.Given as goal

@@ -1,6 +1,6 @@
 use Rattle.std.proofs.Common.{◌≡◌, ℕ, ◌&&◌, length, not}
 use Rattle.wf_model.specs.Lists.{has}
-use Rattle.wf_set.specs.Parts.{part_values}
+use Rattle.wf_base.specs.Set.Parts.{part_values}
 use Rattle.wf_lane.specs.Rows.{OccurIn, is_met_early}
 use Rattle.wf_lane.proofs.column.Column.unmet_early.Given as goal
 

@@ -1,7 +1,0 @@
-use Rattle.wf_words.proofs.Lemmas.{taken}
-use Rattle.wf_args.proofs.command.lift_command.Goals as goal
-
-pub returns : goal.returns
-returns c =
-    let has_task = taken _ _ _ _ _ c.arg-command.ensures c.task.ensures c.subcommand.ensures in
-    c.taking.ensures _ _ has_task c.optional.ensures

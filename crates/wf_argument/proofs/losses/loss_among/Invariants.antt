@@ -1,6 +1,0 @@
-use Rattle.std.proofs.Common.{◌≡◌, drop}
-use Rattle.wf_argument.specs.State.{loss_among}
-use Rattle.wf_argument.proofs.losses.loss_among.Given as goal
-
-abbrev pub invariant-loop-loss : goal.invariant-loop-loss
-invariant-loop-loss l = loss_among l.value (drop l.loss-index l.losses) ≡ loss_among l.value l.losses

@@ -1,6 +1,0 @@
-use Rattle.std.proofs.Common.{◌≡◌, ◌++◌, drop, string_bytes}
-use Rattle.wf_argument.specs.Used.{marked_text}
-use Rattle.wf_argument.proofs.points.put_points.Given as goal
-
-abbrev pub invariant-loop-point : goal.invariant-loop-point
-invariant-loop-point l = string_bytes l.text ++ marked_text l.ranks l.marks l.point (drop l.point l.protocol.points) ≡ string_bytes l.initial.text ++ marked_text l.ranks l.marks 0 l.protocol.points

@@ -1,8 +1,0 @@
-use Rattle.std.proofs.Common.{◌≡◌, ℕ, take}
-use Rattle.wf_model.specs.Lists.{has}
-use Rattle.wf_set.specs.Sets.{values_in}
-use Rattle.wf_argument.specs.State.{occurs}
-use Rattle.wf_argument.proofs.reasons.values_at.Given as goal
-
-abbrev pub invariant-loop-tuple : goal.invariant-loop-tuple
-invariant-loop-tuple l = (v : ℕ) → has (values_in l.set) v ≡ occurs (take l.tuple-index l.tuples) l.place v

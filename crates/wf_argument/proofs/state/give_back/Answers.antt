@@ -1,6 +1,0 @@
-use Rattle.std.proofs.Common.{vec_items, arith}
-use Rattle.wf_argument.proofs.Trails.{losses_cut}
-use Rattle.wf_argument.proofs.state.give_back.Goals as goal
-
-pub returns-then-point-len : goal.returns-then-point-len
-returns-then-point-len c = losses_cut vec_items c.args.gone.now.items c.args.point c.args.before c.index_mut.result.now c.truncate.new.self (omega arith) c.index_mut.ensures.value c.truncate.ensures.items

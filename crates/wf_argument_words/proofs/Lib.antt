@@ -1,6 +1,0 @@
-mod ExecutionPlaces
-mod ListsInWords
-mod Margins
-mod Pieces
-mod Sizes
-mod ValuesInWords

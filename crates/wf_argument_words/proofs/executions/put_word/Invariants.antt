@@ -1,7 +1,0 @@
-use Rattle.std.proofs.Common.{◌≡◌, ◌++◌, string_bytes}
-use Rattle.wf_argument_words.specs.Text.{participant_text}
-use Rattle.wf_argument_words.proofs.ExecutionPlaces.{blocks_text}
-use Rattle.wf_argument_words.proofs.executions.put_word.Given as goal
-
-abbrev pub invariant-loop-block : goal.invariant-loop-block
-invariant-loop-block l = string_bytes l.text ≡ string_bytes l.initial.text ++ blocks_text (participant_text l.ranks l.with_inputs) l.all l.word l.block

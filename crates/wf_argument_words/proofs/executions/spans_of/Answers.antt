@@ -1,5 +1,0 @@
-use Rattle.wf_io.proofs.Lemmas.{none_given}
-use Rattle.wf_argument_words.proofs.executions.spans_of.Goals as goal
-
-pub returns-in_err-push : goal.returns-in_err-push
-returns-in_err-push c = none_given c.from_residual.result _ c.from_residual.ensures.0

@@ -1,8 +1,0 @@
-use Rattle.std.proofs.Common.{drop, false}
-use Rattle.wf_io.proofs.Lemmas.{IsPut}
-use Rattle.wf_argument_words.specs.Text.{block_text, participant_text}
-use Rattle.wf_argument_words.proofs.Pieces.{block_left}
-use Rattle.wf_argument_words.proofs.listed.put_block.Given as goal
-
-abbrev pub invariant-loop-place : goal.invariant-loop-place
-invariant-loop-place g l = IsPut l.fn.sink l.fn.page l.sink l.page (block_text (participant_text false false) l.members) (block_left l.place (drop l.place l.members))

@@ -1,8 +1,0 @@
-use Rattle.std.proofs.Common.{◌++◌, codes, drop, flat_map}
-use Rattle.wf_io.proofs.Lemmas.{IsPut}
-use Rattle.wf_argument_words.specs.Listing.{spaced}
-use Rattle.wf_argument_words.proofs.listed.put_end.Given as goal
-
-abbrev pub invariant-loop-point : goal.invariant-loop-point
-invariant-loop-point g l =
-    IsPut l.fn.sink l.fn.page l.sink l.page (codes " :" ++ (flat_map spaced l.points ++ codes "\n")) (flat_map spaced (drop l.point-index l.points) ++ codes "\n")

@@ -1,8 +1,0 @@
-use Rattle.std.proofs.Common.{◌≡◌, ◌++◌, string_bytes, drop, codes, false}
-use Rattle.wf_model.specs.PointsText.{process_text}
-use Rattle.wf_argument_words.proofs.ListsInWords.{rest_of}
-use Rattle.wf_argument_words.proofs.summary.put_processes.Given as goal
-
-abbrev pub invariant-loop-place : goal.invariant-loop-place
-invariant-loop-place l =
-    string_bytes l.text ++ rest_of (process_text false) (codes ", ") (codes " and ") l.place (drop l.place l.processes) ≡ string_bytes l.initial.text ++ rest_of (process_text false) (codes ", ") (codes " and ") 0 l.processes

@@ -1,7 +1,0 @@
-use Rattle.std.proofs.Common.{◌≡◌, ◌++◌, string_bytes, drop, codes}
-use Rattle.wf_argument_words.specs.Summary.{size_text}
-use Rattle.wf_argument_words.proofs.ListsInWords.{rest_of}
-use Rattle.wf_argument_words.proofs.summary.put_sizes.Given as goal
-
-abbrev pub invariant-loop-place : goal.invariant-loop-place
-invariant-loop-place l = string_bytes l.text ++ rest_of size_text (codes ", ") (codes ", ") l.place (drop l.place l.sizes) ≡ string_bytes l.initial.text ++ rest_of size_text (codes ", ") (codes ", ") 0 l.sizes

@@ -1,9 +1,0 @@
-use Rattle.std.proofs.Common.{◌≡◌, ◌++◌, length}
-use Rattle.wf_set.specs.Sets.{values_in}
-use Rattle.wf_argument_words.proofs.values.list_values.Given as goal
-
-abbrev pub invariant-values : goal.invariant-values
-invariant-values l = l.values.items ++ values_in l.left ≡ values_in l.initial.left
-
-abbrev pub decreases-values : goal.decreases-values
-decreases-values l = length (values_in l.left)

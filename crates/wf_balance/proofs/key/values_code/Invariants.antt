@@ -1,9 +1,0 @@
-use Rattle.std.proofs.Common.{◌≡◌, ◌≤◌, drop, length}
-use Rattle.wf_balance.specs.Keys.{but, digits_code}
-use Rattle.wf_balance.proofs.key.values_code.Given as goal
-
-abbrev pub invariant-places : goal.invariant-places
-invariant-places l = record {
-  same : l.code ≡ digits_code (but l.place l.skipped (drop l.place l.values));
-  inside : l.place ≤ length l.values;
-}

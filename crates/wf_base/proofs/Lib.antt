@@ -1,0 +1,2 @@
+pub mod OfStreams
+pub mod OfSet

@@ -1,5 +1,0 @@
-use Rattle.wf_box.proofs.PlaceLemmas.{parts_lacked}
-use Rattle.wf_box.proofs.candidates.ArrayPart4Candidates.lost.Goals as goal
-
-pub returns : goal.returns
-returns c = parts_lacked c.args.self.now c.args.supported.now c.difference.result c.args.place c.difference.ensures

@@ -1,6 +1,0 @@
-use Rattle.std.proofs.Common.{◌==◌, ap, length, sym, ◌∙◌}
-use Rattle.wf_set.proofs.Lemmas.{values_of_part}
-use Rattle.wf_box.proofs.candidates.PartValueSet.is_empty.Goals as goal
-
-pub returns : goal.returns
-returns c = c.is_empty.ensures ∙ ap (λ vs. length vs == 0) (sym (values_of_part c.args.self))

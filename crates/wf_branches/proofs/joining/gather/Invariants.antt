@@ -1,5 +1,0 @@
-use Rattle.wf_branches.proofs.JoinSteps.{IsGoing}
-use Rattle.wf_branches.proofs.joining.gather.Given as goal
-
-abbrev pub invariant-loop-number : goal.invariant-loop-number
-invariant-loop-number g l = IsGoing l.task l.protocol.rounds l.text l.number l.lists.items l.rest

@@ -1,5 +1,0 @@
-use Rattle.wf_branches.proofs.BranchAnswers.{branch_answers_true}
-use Rattle.wf_branches.proofs.laws.branch_answers_are_true.Goals as goal
-
-pub returns : goal.returns
-returns c = branch_answers_true

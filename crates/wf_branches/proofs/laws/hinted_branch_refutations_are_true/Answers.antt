@@ -1,5 +1,0 @@
-use Rattle.wf_branches.proofs.HintedBranches.{hinted_branch_refutations_true}
-use Rattle.wf_branches.proofs.laws.hinted_branch_refutations_are_true.Goals as goal
-
-pub returns : goal.returns
-returns c = hinted_branch_refutations_true

@@ -1,5 +1,0 @@
-use Rattle.wf_branches.proofs.JoinedTruth.{joins_true}
-use Rattle.wf_branches.proofs.laws.joins_are_true.Goals as goal
-
-pub returns : goal.returns
-returns c = joins_true

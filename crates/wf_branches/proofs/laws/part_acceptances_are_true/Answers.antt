@@ -1,5 +1,0 @@
-use Rattle.wf_branches.proofs.CheckedParts.{part_acceptances_true}
-use Rattle.wf_branches.proofs.laws.part_acceptances_are_true.Goals as goal
-
-pub returns : goal.returns
-returns c = part_acceptances_true

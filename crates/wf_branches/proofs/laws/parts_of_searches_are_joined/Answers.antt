@@ -1,5 +1,0 @@
-use Rattle.wf_branches.proofs.JoinLimits.{parts_joined}
-use Rattle.wf_branches.proofs.laws.parts_of_searches_are_joined.Goals as goal
-
-pub returns : goal.returns
-returns c = parts_joined

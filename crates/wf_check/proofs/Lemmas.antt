@@ -1,3 +1,0 @@
--- What the crates above may use of these proofs.
-pub use Rattle.wf_check.proofs.KeptValues.{fails_first}
-pub use Rattle.wf_check.proofs.TruthLemmas.{faultless_is_true}

@@ -1,6 +1,0 @@
-use Rattle.std.proofs.Common.{take}
-use Rattle.wf_check.specs.RowBlocks.{AreOfSize}
-use Rattle.wf_check.proofs.group.are_of_size.Given as goal
-
-abbrev pub invariant-loop-row : goal.invariant-loop-row
-invariant-loop-row l = AreOfSize l.size (take l.row-index l.rows)

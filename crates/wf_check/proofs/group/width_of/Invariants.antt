@@ -1,6 +1,0 @@
-use Rattle.std.proofs.Common.{take}
-use Rattle.wf_check.specs.RowBlocks.{AreNarrow}
-use Rattle.wf_check.proofs.group.width_of.Given as goal
-
-abbrev pub invariant-loop-row : goal.invariant-loop-row
-invariant-loop-row l = AreNarrow l.width (take l.row-index l.rows)

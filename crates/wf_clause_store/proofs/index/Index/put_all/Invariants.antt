@@ -1,9 +1,0 @@
-use Rattle.std.proofs.Common.{take}
-use Rattle.wf_clause_store.specs.Index.{FindsEach, FindsStill}
-use Rattle.wf_clause_store.proofs.index.Index.put_all.Given as goal
-
-abbrev pub invariant-entries : goal.invariant-entries
-invariant-entries l = record {
-  found : FindsEach l.self (take l.entry-index l.entries);
-  still : FindsStill l.initial.self l.self;
-}

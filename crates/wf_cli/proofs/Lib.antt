@@ -1,0 +1,2 @@
+pub mod OfWords
+pub mod OfService

@@ -1,0 +1,6 @@
+use Rattle.wf_cli.proofs.OfWords.Lemmas.{taken}
+use Rattle.wf_cli_args.proofs.command.views_command.Goals as goal
+
+pub returns : goal.returns
+returns c =
+    taken _ _ _ _ _ c.arg.ensures c.rounds.ensures c.subcommand.ensures

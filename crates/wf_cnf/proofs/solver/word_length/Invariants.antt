@@ -1,6 +1,0 @@
-use Rattle.std.proofs.Common.{◌≡◌, true, take}
-use Rattle.wf_cnf.specs.Reading.{has_no_blank}
-use Rattle.wf_cnf.proofs.solver.word_length.Given as goal
-
-abbrev pub invariant-loop-place : goal.invariant-loop-place
-invariant-loop-place l = has_no_blank (take l.place l.text) ≡ true

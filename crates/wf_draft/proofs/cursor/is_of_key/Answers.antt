@@ -1,5 +1,0 @@
-use Rattle.wf_draft.proofs.CursorLemmas.{plain_byte}
-use Rattle.wf_draft.proofs.cursor.is_of_key.Goals as goal
-
-pub returns-then-byte-ge95 : goal.returns-then-byte-ge95
-returns-then-byte-ge95 c _ = plain_byte c.args.byte c.if-byte-ge95.true

@@ -1,9 +1,0 @@
-use Rattle.std.proofs.Common.{length}
-use Rattle.wf_draft.proofs.TokensOfValues.{HasRead}
-use Rattle.wf_draft.proofs.members.members.Given as goal
-
-abbrev pub invariant-members : goal.invariant-members
-invariant-members g l = HasRead g.S.Fields.hold g.S.Fields.deep l.initial.cursor l.fields l.cursor
-
-abbrev pub decreases-members : goal.decreases-members
-decreases-members g l = length l.cursor

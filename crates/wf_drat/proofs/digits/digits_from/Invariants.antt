@@ -1,5 +1,0 @@
-use Rattle.wf_drat.specs.Moves.{AreDigits}
-use Rattle.wf_drat.proofs.digits.digits_from.Given as goal
-
-abbrev pub invariant-bytes : goal.invariant-bytes
-invariant-bytes l = AreDigits l.piece l.from (record { end = l.at; value = l.value })

@@ -1,6 +1,0 @@
-use Rattle.wf_engine.specs.Texts.{IsFound}
-use Rattle.wf_run.proofs.Lemmas.{counted}
-use Rattle.wf_engine.proofs.laws.finding_is_counted.Goals as goal
-
-pub returns : goal.returns
-returns c rounds form = counted (IsFound form) rounds

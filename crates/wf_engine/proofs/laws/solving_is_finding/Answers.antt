@@ -1,5 +1,0 @@
-use Rattle.wf_engine.proofs.RunsWithoutAccount.{solving_finds}
-use Rattle.wf_engine.proofs.laws.solving_is_finding.Goals as goal
-
-pub returns : goal.returns
-returns c = solving_finds

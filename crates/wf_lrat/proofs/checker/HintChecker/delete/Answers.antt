@@ -1,7 +1,0 @@
-use Rattle.std.proofs.Common.{subst, sym}
-use Rattle.wf_lrat.specs.Models.{IsModelOf}
-use Rattle.wf_lrat.proofs.ModelLemmas.{keeps-deleted}
-use Rattle.wf_lrat.proofs.checker.HintChecker.delete.Goals as goal
-
-pub returns-clause-kept : goal.returns-clause-kept
-returns-clause-kept c = λ a model. subst (IsModelOf a) (sym c.empty.ensures) (keeps-deleted c.args.self.now c.args.ids.now a model)

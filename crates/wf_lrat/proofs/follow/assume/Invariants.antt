@@ -1,7 +1,0 @@
-use Rattle.std.proofs.Common.{◌≡◌, drop}
-use Rattle.wf_lrat.specs.Hints.{with_false}
-use Rattle.wf_lrat.specs.Slots.{clause_of}
-use Rattle.wf_lrat.proofs.follow.assume.Given as goal
-
-abbrev pub invariant-literals : goal.invariant-literals
-invariant-literals l = with_false (clause_of l.initial.trail) (clause_of l.clause) ≡ with_false (clause_of l.trail) (clause_of (drop l.literal-index l.clause))

@@ -1,6 +1,0 @@
-use Rattle.std.proofs.Common.{◌≡◌, drop}
-use Rattle.wf_lrat.specs.Hints.{next_group}
-use Rattle.wf_lrat.proofs.groups.next_group.Given as goal
-
-abbrev pub invariant-hints : goal.invariant-hints
-invariant-hints l = next_group l.hints ≡ next_group (drop l.at l.hints)

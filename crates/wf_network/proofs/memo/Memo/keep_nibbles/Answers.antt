@@ -1,8 +1,0 @@
-use Rattle.std.proofs.lemmas.List.Elements.{All-set}
-use Rattle.wf_network.specs.Revising.{IsKnownNibbles}
-use Rattle.wf_network.proofs.MemoLemmas.{all_known, narrow_known, small_known, tiny_known, wide_known}
-use Rattle.wf_network.proofs.memo.Memo.keep_nibbles.Goals as goal
-
-pub returns-then-place-len : goal.returns-then-place-len
-returns-then-place-len c = λ ks new known.
-    all_known ks _ _ _ _ (All-set (IsKnownNibbles ks) c.args.self.now.tiny.items c.args.place c.args.answer new (tiny_known ks c.args.self.now known)) (small_known ks c.args.self.now known) (narrow_known ks c.args.self.now known) (wide_known ks c.args.self.now known)

@@ -1,5 +1,0 @@
-use Rattle.wf_obstruction_engine.proofs.SearchRuns.{found_true}
-use Rattle.wf_obstruction_engine.proofs.laws.found_obstructions_are_true.Goals as goal
-
-pub returns : goal.returns
-returns c = found_true

@@ -1,6 +1,0 @@
-use Rattle.std.proofs.Common.{◌≡◌, ◌+◌, drop}
-use Rattle.wf_model.specs.Presets.{different}
-use Rattle.wf_preset.proofs.family.different.Given as goal
-
-abbrev pub invariant-loop-place : goal.invariant-loop-place
-invariant-loop-place l = l.count + different (drop l.place l.values) ≡ different l.values

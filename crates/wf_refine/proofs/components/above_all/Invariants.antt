@@ -1,8 +1,0 @@
-use Rattle.std.proofs.Common.{◌≡◌, ◌<◌, ◌+◌, ℕ, get_or, length}
-use Rattle.wf_refine.proofs.components.above_all.Given as goal
-
-abbrev pub invariant-numbers : goal.invariant-numbers
-invariant-numbers l = record {
-  above : (i : ℕ) → i < l.number-index → get_or l.numbers i 0 < l.above;
-  first : 0 < l.above → (i : ℕ) × (i < length l.numbers) × (get_or l.numbers i 0 + 1 ≡ l.above);
-}

@@ -1,6 +1,0 @@
-use Rattle.std.proofs.Common.{◌≡◌, take}
-use Rattle.wf_trees.specs.Trees.{largest}
-use Rattle.wf_refine.proofs.values.largest_in.Given as goal
-
-abbrev pub invariant-values : goal.invariant-values
-invariant-values l = l.most ≡ largest (take l.value-index l.values)

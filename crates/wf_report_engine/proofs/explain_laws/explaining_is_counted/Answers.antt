@@ -1,5 +1,0 @@
-use Rattle.wf_report_engine.proofs.ExplainCounts.{explained_counted}
-use Rattle.wf_report_engine.proofs.explain_laws.explaining_is_counted.Goals as goal
-
-pub returns : goal.returns
-returns c = explained_counted

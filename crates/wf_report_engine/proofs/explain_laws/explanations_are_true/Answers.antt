@@ -1,5 +1,0 @@
-use Rattle.wf_report_engine.proofs.ExplanationsAreTrue.{explained_true}
-use Rattle.wf_report_engine.proofs.explain_laws.explanations_are_true.Goals as goal
-
-pub returns : goal.returns
-returns c = explained_true

@@ -1,0 +1,2 @@
+pub mod OfArgument
+pub mod OfWords

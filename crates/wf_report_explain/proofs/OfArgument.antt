@@ -1,0 +1,10 @@
+pub mod CitedSteps
+pub mod TextParts
+pub mod Places
+pub mod GoneTuples
+pub mod PartSteps
+pub mod ReasonsInWords
+pub mod Summaries
+pub mod TakenValues
+pub mod Trails
+pub mod Usage

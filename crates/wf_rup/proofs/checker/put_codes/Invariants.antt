@@ -1,6 +1,0 @@
-use Rattle.std.proofs.Common.{◌≡◌, map, take}
-use Rattle.wf_drat.specs.Codes.{code_of}
-use Rattle.wf_rup.proofs.checker.put_codes.Given as goal
-
-abbrev pub invariant-literals : goal.invariant-literals
-invariant-literals l = l.codes.items ≡ map code_of (take l.literal-index l.clause)

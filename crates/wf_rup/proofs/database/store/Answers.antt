@@ -1,8 +1,0 @@
-use Rattle.wf_rup.proofs.KeptLemmas.{AddsClause-same}
-use Rattle.wf_rup.proofs.database.store.Goals as goal
-
-pub returns-in_err-push-2-clause-sound : goal.returns-in_err-push-2-clause-sound
-returns-in_err-push-2-clause-sound c = AddsClause-same c.args.clauses.now _ c.args.clause.now c.in_ok-push.ensures
-
-pub returns-clause-sound : goal.returns-clause-sound
-returns-clause-sound c = AddsClause-same c.args.clauses.now _ c.args.clause.now c.in_ok-push.ensures

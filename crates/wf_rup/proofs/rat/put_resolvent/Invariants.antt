@@ -1,6 +1,0 @@
-use Rattle.std.proofs.Common.{◌≡◌, take}
-use Rattle.wf_rup.specs.Rat.{resolvent_of}
-use Rattle.wf_rup.proofs.rat.put_resolvent.Given as goal
-
-abbrev pub invariant-literals : goal.invariant-literals
-invariant-literals l = l.resolvent.items ≡ resolvent_of l.lemma l.negation (take l.literal-index l.clause)

@@ -1,6 +1,0 @@
-use Rattle.std.proofs.Common.{◌≡◌, false, take}
-use Rattle.wf_rup.specs.Propagation.{is_satisfied_by}
-use Rattle.wf_rup.proofs.scan.is_satisfied.Given as goal
-
-abbrev pub invariant-loop-literal : goal.invariant-loop-literal
-invariant-loop-literal l = is_satisfied_by l.trail (take l.literal-index l.clause) ≡ false

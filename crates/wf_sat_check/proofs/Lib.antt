@@ -1,0 +1,3 @@
+pub mod OfStore
+pub mod OfRup
+pub mod OfLrat

@@ -1,0 +1,35 @@
+-- Reading several bytes of a piece at once.
+use Rattle.std.specs.Prelude.{◌≡◌, ◌<◌, ◌≤◌, ℕ, Bool, true, List, Option, Some, None, drop, get_or, length}
+use Rattle.std.specs.Char.{is_ascii_digit}
+use Rattle.wf_sat_text.specs.Drat.Text.{State, after, text_of}
+use Rattle.wf_sat_text.specs.declared.drat.digits.Digits.{Digits}
+use Rattle.wf_sat_text.specs.declared.drat.reader.Reading.TheVariants.{Number}
+use Rattle.wf_sat_text.specs.declared.drat.reader.Transition.TheVariants.{GoesOn}
+
+-- the bytes from one place on, read in this state, say what those from
+-- another one on say, read in another state
+abbrev pub LeadsTo : List ℕ → State → ℕ → State → ℕ → Type 0
+LeadsTo bytes state from next to = text_of state (drop from bytes) ≡ text_of next (drop to bytes)
+
+-- a number is read, and so far it is this one
+abbrev pub in_number : State → Bool → ℕ → State
+in_number state is_negative value = after (GoesOn (Number is_negative value)) state
+
+-- the bytes between are digits, and come to this number
+pub record AreDigits (bytes : List ℕ) (from : ℕ) (digits : Digits) : Type 0 where
+  pub forward : from ≤ digits.end
+  pub within : digits.end ≤ length bytes
+  pub first : from < digits.end → is_ascii_digit (get_or bytes from 0) ≡ true
+  pub same : (state : State) → (is_negative : Bool)
+      → LeadsTo bytes (in_number state is_negative 0) from (in_number state is_negative digits.value) digits.end
+
+-- nothing changes, or some bytes are read from a place on, in this state
+abbrev pub Moves : List ℕ → State → ℕ → State → State → Option ℕ → Type 0
+Moves bytes state from old new None = new ≡ old
+Moves bytes state from old new (Some to) = (from < to) × (to ≤ length bytes) × LeadsTo bytes state from new to
+
+-- nothing changes, or a number is read whose first digit stands here
+abbrev pub MovesOverNumber : List ℕ → Bool → ℕ → State → State → Option ℕ → Type 0
+MovesOverNumber bytes is_negative from old new None = new ≡ old
+MovesOverNumber bytes is_negative from old new (Some to) =
+    (is_ascii_digit (get_or bytes from 0) ≡ true) × Moves bytes (in_number old is_negative 0) from old new (Some to)

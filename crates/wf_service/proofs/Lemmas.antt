@@ -1,3 +1,0 @@
--- What the crates above may use of these proofs.
-pub use Rattle.wf_service.proofs.DeclinedWords.{calls_of_fault, declined, has_status, none_failed, two_or_three}
-pub use Rattle.wf_service.proofs.FileCounts.{counted, unasked, without}

@@ -1,5 +1,0 @@
--- What the crates above may use of these proofs.
-pub use Rattle.wf_set.proofs.Boxes.{one_value, same_sets, set_at}
-pub use Rattle.wf_set.proofs.Listing.{values_listed}
-pub use Rattle.wf_set.proofs.PartLaws.{by_two, few_values, filter_nothing, has-part_values, has_large, holds_nothing, one_bit, part_holds-or, part_holds-pow, run_agrees, run_of_none, values_of_nothing, values_small}
-pub use Rattle.wf_set.proofs.SetLaws.{in_four, length-values_in, part_of, values_ascend, values_of_first, values_of_part}

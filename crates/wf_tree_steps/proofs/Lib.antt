@@ -1,0 +1,2 @@
+pub mod OfBalance
+pub mod OfCover

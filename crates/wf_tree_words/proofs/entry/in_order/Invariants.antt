@@ -1,6 +1,0 @@
-use Rattle.std.proofs.Common.{◌≡◌, take}
-use Rattle.wf_balance.specs.Multipliers.{multipliers_seen}
-use Rattle.wf_tree_words.proofs.entry.in_order.Given as goal
-
-abbrev pub invariant-loop-multiplier : goal.invariant-loop-multiplier
-invariant-loop-multiplier l = l.entries.items ≡ multipliers_seen (take l.multiplier-index l.multipliers)

@@ -1,8 +1,0 @@
-use Rattle.std.proofs.Common.{◌≡◌, ◌++◌, string_bytes, codes, drop}
-use Rattle.wf_tree_words.specs.Words.{values_text}
-use Rattle.wf_tree_words.proofs.ListsInWords.{rest_of}
-use Rattle.wf_tree_words.proofs.equations.put_each_tuple.Given as goal
-
-abbrev pub invariant-loop-place : goal.invariant-loop-place
-invariant-loop-place l =
-    string_bytes l.text ++ rest_of (λ x. values_text x.others) (codes ", ") l.last l.place (drop l.place l.entries) ≡ string_bytes l.initial.text ++ rest_of (λ x. values_text x.others) (codes ", ") l.last 0 l.entries

@@ -1,4 +1,0 @@
--- What the crates above may use of these proofs.
-pub use Rattle.wf_trees.proofs.Members.{any_has, contains, from_each, has_any, passes_each}
-pub use Rattle.wf_trees.proofs.Places.{map_twice}
-pub use Rattle.wf_trees.proofs.TreesLeaveNoMap.{obstruction_leaves_no_map}

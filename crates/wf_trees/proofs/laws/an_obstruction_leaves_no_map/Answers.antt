@@ -1,5 +1,0 @@
-use Rattle.wf_trees.proofs.TreesLeaveNoMap.{obstruction_leaves_no_map}
-use Rattle.wf_trees.proofs.laws.an_obstruction_leaves_no_map.Goals as goal
-
-pub returns : goal.returns
-returns c = obstruction_leaves_no_map

@@ -1,5 +1,0 @@
-use Rattle.wf_verify_engine.proofs.HintCounts.{proved_by_hints}
-use Rattle.wf_verify_engine.proofs.laws.hinted_proving_is_counted.Goals as goal
-
-pub returns : goal.returns
-returns c = proved_by_hints
