@@ -3,30 +3,32 @@
 import { taskFrom } from "./making.js";
 import { Mistake } from "./tasks.js";
 
+/* global legal */
 /** How often the page hears how far it is, in milliseconds. */
 const EACH = 150;
 
+// what predicates may use beside the language, unless they have their own
+self.values ??= object => Object.values(object);
+self.distinct ??= object => new Set(Object.values(object)).size;
+
 /** The line of the predicate at which an error came, or null. @param {any} error @param {number} lines */
 function lineOf(error, lines) {
-  const found = /(?:blob:[^\s)]*?):(\d+):\d+/.exec(String(error?.stack ?? ""));
-  const line = found ? Number(found[1]) : null;
-  return line !== null && line <= lines ? line : null;
+  const found = [...String(error?.stack ?? "").matchAll(/blob:[^\s)]*?:(\d+):\d+/g)].map(it => Number(it[1]));
+  return found.find(it => it <= lines) ?? null;
 }
 
-/** @param {any} data  what the task is made from, and `lines`, how many the predicate has @param {() => unknown} legalOf */
-export function answer(data, legalOf) {
+onmessage = ({ data }) => {
   try {
-    const legal = legalOf();
     if (typeof legal !== "function") throw new Mistake("There is no function legal(start, end).");
     let said = 0;
-    const text = taskFrom(data, /** @type {any} */ (legal), (asked, whole) => {
+    const text = taskFrom(data, legal, (asked, whole) => {
       if (performance.now() - said <= EACH) return;
       said = performance.now();
       postMessage({ kind: "progress", asked, whole });
     });
     postMessage({ kind: "made", text });
   } catch (error) {
-    const mistake = error instanceof Mistake;
-    postMessage({ kind: "mistake", text: mistake ? error.message : String(error), line: lineOf(mistake ? error.cause ?? error : error, data.lines) });
+    const isMistake = error instanceof Mistake;
+    postMessage({ kind: "mistake", text: isMistake ? error.message : String(error), line: lineOf(isMistake ? error.cause ?? error : error, data.lines) });
   }
-}
+};

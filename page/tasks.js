@@ -16,7 +16,9 @@
 /** What a task can't be made from, in a sentence. */
 export class Mistake extends Error {}
 
-export const MOST_PROCESSES = 4, LARGEST = 255, LARGEST_PLAIN = 63, LONGEST = 16777216;
+export const LARGEST = 255;
+export const LARGEST_PLAIN = 63;
+export const LONGEST = 16777216;
 export const MOST = { "input vertices": 64, "input simplices, with their faces": 4096, "listed outputs": 65536, "value lists": 65536 };
 
 /** What simplices are compared by. @param {Simplex} simplex */

@@ -1,0 +1,48 @@
+// The output complex: what may be decided, with the tuples lit that some inputs allow.
+import { find, isNarrow, make, plural } from "./dom.js";
+import { legend, simplexText } from "./legend.js";
+import { pinched, allowedSimplices, sceneOfOutputs, simplexCells } from "./outputs.js";
+import { state, valueName } from "./state.js";
+import { paint, showScene, view } from "./view.js";
+import { vertexKey } from "./tasks.js";
+
+const MOST_OPTIONS = 300;
+const shown = { task: null, at: 0 };
+
+/** Draws the outputs of a task, with those lit that a simplex allows, or says that they are too many. @returns the drawn complex, or null */
+export function drawOutputs(rules, simplex, nameOf, what = "may be decided") {
+  const drawn = sceneOfOutputs(rules, { least: isNarrow() ? 380 : 560 });
+  showScene(drawn?.scene ?? null, rules.values, rules.processes > 3 ? "The outputs of four processes are not drawn." : "There are too many outputs to see anything.");
+  if (!drawn) { legend([], ""); return null; }
+  Object.assign(view, { made: null, valueName: nameOf, tells: false });
+  const tuple = it => it.map(([p, v]) => `p${p} decides ${nameOf(v)}`).join(", "), lit = simplexCells(drawn, rules, simplex);
+  view.spotWords = at => tuple([drawn.vertices[at]]);
+  view.cellWords = at => `${tuple(drawn.listed[at])}${lit.has(at) ? `: allowed for ${simplexText(simplex)}` : ": not allowed here"}`;
+  const pinches = new Set(pinched(allowedSimplices(rules, simplex)));
+  paint({
+    cell: at => lit.has(at) ? { marks: ["lit"] } : {},
+    spot: at => ({ value: drawn.vertices[at][1], marks: pinches.has(vertexKey(drawn.vertices[at])) ? ["empty"] : [] }),
+  });
+  const names = new Map(drawn.vertices.map(([, v], at) => [at, nameOf(v)]).filter(([at, name]) => name !== String(drawn.vertices[at][1])));
+  if (names.size && names.size <= 40) view.drawing.nameSpots(names);
+  legend(rules.values, what);
+  return { ...drawn, pinches };
+}
+
+/** The outputs of the task at hand. */
+export function wordsOfOutputs() {
+  const { task } = state, { rules } = task, listed = [...rules.simplices].reverse();
+  if (shown.task !== task) Object.assign(shown, { task, at: 0 });
+  const simplex = listed[shown.at], tuples = rules.allowed.get(simplex.map(vertexKey).join()) ?? [];
+  const drawn = drawOutputs(rules, simplex, valueName);
+  view.hint = "Lit: what may be decided with the chosen inputs. Point at a shape, an edge or a triangle to read it.";
+  const choose = make("select", { id: "simplex", "aria-label": "Inputs", onchange: event => { shown.at = Number(event.target.value); wordsOfOutputs(); find("simplex").focus(); } },
+    listed.slice(0, MOST_OPTIONS).map((it, at) => make("option", { value: at, selected: at === shown.at }, `{${simplexText(it)}}`)));
+  find("words").className = "";
+  const pinches = drawn ? [...drawn.pinches].map(it => { const [p, v] = it.split("=").map(Number); return `p${p} = ${valueName(v)}`; }) : [];
+  find("words").replaceChildren(make("h3", {}, "What is allowed: Δ"), make("p", {}, "With ", choose, ` they may decide ${plural(tuples.length, "tuple")}.`),
+    make("p", {}, "A shape is a process that decides a value. An edge or a triangle is what two or three decide together."),
+    pinches.length ? make("p", {}, `The lit triangles fall apart at ${pinches.join(" and ")}.`) : null,
+    make("ul", { class: "tuples", "aria-label": "Allowed tuples" }, tuples.slice(0, MOST_OPTIONS).map(it => make("li", {}, `(${it.map(valueName).join(", ")})`))),
+    tuples.length > MOST_OPTIONS ? make("p", { class: "soft" }, `and ${plural(tuples.length - MOST_OPTIONS, "tuple")} more in the task's file`) : "");
+}
