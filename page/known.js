@@ -39,7 +39,7 @@ function listKnown() {
 /** Reads the tasks that the page carries. */
 export async function loadKnown() {
   gallery.tasks = JSON.parse(await unpackedText("tasks"));
-  find("search").placeholder = `Search ${gallery.rows.length} tasks: consensus, renaming, 1993, never …`;
+  find("search").placeholder = `Search ${gallery.rows.length} tasks: consensus, 1993, never …`;
   listKnown();
 }
 

@@ -14,6 +14,7 @@ export function legend(values, what, chooser = null) {
   const box = find("legend"), parts = [];
   if (!view.drawing) { box.replaceChildren(); return; }
   for (const p of [...new Set(view.drawing.scene.spots.map(it => it.process))].sort()) {
+    if (p < 0) continue;
     const icon = element("svg", { class: "wf", viewBox: "0 0 24 24", "aria-hidden": "true" }, outline(p, 12, p === 3 ? 13.5 : 12, 8.5, { class: "spot p" + p }));
     parts.push(make("span", {}, icon, `process ${p}`));
   }

@@ -38,10 +38,21 @@ function placesOf(listed) {
   return found;
 }
 
+/** Whether who decides what makes no difference to what a facet allows: then values alone are drawn. @param {Rules} rules */
+export const isColourless = rules => rules.facets.every(facet => {
+  const tuples = rules.allowed.get(keyOf(facet)) ?? [], known = new Set(tuples.map(it => it.join()));
+  const swapped = (it, a, b) => it.map((v, at) => it[at === a ? b : at === b ? a : at]).join();
+  return facet.length > 1 && tuples.every(it => it.every((_, a) => known.has(swapped(it, 0, a))));
+});
+/** The process of a vertex that is a value alone. */
+export const ANYBODY = -1;
+/** The values of an output simplex, as vertices of nobody. @param {Simplex} simplex @returns {Simplex} */
+export const valuesAlone = simplex => [...new Set(simplex.map(([, v]) => v))].sort((a, b) => a - b).map(v => [ANYBODY, v]);
+
 /** The scene of the output complex, with its vertices and simplices, or null if it is too large. A cell's number is that of its simplex, and a
  * spot's number that of its vertex. @param {Rules} rules @param {{least?: number}} how */
 export function sceneOfOutputs(rules, { least = 380 } = {}) {
-  const listed = outputsOf(rules), vertices = listed.filter(it => it.length === 1).map(it => it[0]);
+  const alone = isColourless(rules), listed = alone ? simplicesOf(outputsOf(rules).map(valuesAlone)) : outputsOf(rules), vertices = listed.filter(it => it.length === 1).map(it => it[0]);
   if (rules.processes > 3 || !vertices.length || vertices.length > MOST_VERTICES) return null;
   const places = placesOf(listed), wide = Math.max(...[...places.values()].map(it => it[0]));
   const scale = Math.min(SIDE * (vertices.length <= 12 ? 1.6 : 1), WIDEST / Math.max(wide, 1));
@@ -52,11 +63,11 @@ export function sceneOfOutputs(rules, { least = 380 } = {}) {
     cells: listed.map((it, number) => ({ execution: number, spots: it.map(one => keys.indexOf(vertexKey(one))), isCopy: false, middle })),
     notes: [], size: /** @type {[number, number]} */ ([0, 0]), radius: at.length > 1 ? Math.min(MOST_RADIUS, 0.3 * nearest(at)) : MOST_RADIUS,
   };
-  return { scene: onSheet(scene, least), listed, vertices };
+  return { scene: onSheet(scene, least), listed, vertices, alone };
 }
 
-/** The numbers of the output simplices that an input simplex allows. @param {{listed: Simplex[]}} drawn @param {Rules} rules @returns {Set<number>} */
+/** The numbers of the output simplices that an input simplex allows. @param {{listed: Simplex[], alone: boolean}} drawn @param {Rules} rules @returns {Set<number>} */
 export function simplexCells(drawn, rules, simplex) {
   const numbers = new Map(drawn.listed.map((it, at) => [keyOf(it), at]));
-  return new Set(allowedSimplices(rules, simplex).map(it => numbers.get(keyOf(it))));
+  return new Set(allowedSimplices(rules, simplex).map(it => numbers.get(keyOf(drawn.alone ? valuesAlone(it) : it))));
 }

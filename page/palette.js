@@ -31,9 +31,9 @@ export function element(name, attributes = {}, ...children) {
   return made;
 }
 
-/** The shape of a process about a place: all shapes are about as large. */
+/** The shape of a process about a place, or of a value that any may decide: all shapes are about as large. */
 export function outline(process, x, y, radius, attributes = {}) {
-  const shape = SHAPES[process];
+  const shape = SHAPES[process] ?? "circle";
   if (shape === "circle") return element("circle", { cx: short(x), cy: short(y), r: short(radius), ...attributes });
   if (shape === "square") {
     const half = radius * 0.9;

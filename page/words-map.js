@@ -21,7 +21,7 @@ export function wordsOfMap(found, chooser) {
   const ruled = make("div", { id: "rules", "aria-live": "polite" }, make("p", { class: "soft" }, "looking for rules …"));
   find("words").className = "list";
   find("words").replaceChildren(make("h3", {}, `A decision map ${inRounds(found.rounds)}`),
-    make("p", { class: "soft" }, `${plural(values.length, "point")}. Executions in which all decide one value have its colour. Solved in ${found.solved} ms, and ${found.verdict}.`),
+    make("p", { class: "soft" }, `${plural(values.length, "point")}. Executions in which all decide one value have its colour. Solved in ${found.solved} ms. The checker says: ${found.verdict}.`),
     make("h3", {}, "As rules"), ruled, make("h3", {}, "Point by point"),
     make("ul", { class: "scroll", "aria-label": "Points and their decisions" }, listed,
       lines.length > MOST_LINES ? make("li", {}, make("b", {}, `and ${(lines.length - MOST_LINES).toLocaleString("en")} more in the certificate`)) : null));

@@ -12,18 +12,18 @@ import { simplexCells } from "./outputs.js";
 
 const MOST_FACETS = 8, MOST_LISTED = 200;
 /** What is shown of an obstruction: which node, after how many rounds, the values of the points, and whether any value may be drawn. */
-const shown = { of: null, node: 0, rounds: 1, values: null, any: false };
+const shown = { of: null, node: 0, rounds: 1, values: null, any: false, outputs: false };
 
 /** @param {any} never */
 export function wordsOfNever(never) {
   if (shown.of !== never) {
     // the first node that is no balance says most; a lone balance is played with
-    Object.assign(shown, { of: never, node: 0, rounds: state.task.rules.processes === 2 ? 2 : 1, values: null, any: false });
+    Object.assign(shown, { of: never, node: 0, rounds: state.task.rules.processes === 2 ? 2 : 1, values: null, any: false, outputs: false });
   }
   const hand = never.hands?.[shown.node];
   find("words").className = "";
   if (!hand) { showScene(null, [], "This obstruction has too many nodes to draw. The words beside have the whole of it."); side(never, []); legend([], ""); return; }
-  if (hand.node.name === "balance") play(never, hand); else transform(never, hand);
+  if (hand.node.name !== "balance") transform(never, hand); else if (shown.outputs) outputsAtHand(never, hand); else play(never, hand);
 }
 
 /** The nodes of a tree, to choose from. */
@@ -32,7 +32,7 @@ function nodeList(never) {
   const { simplices } = state.task.rules;
   const what = it => ({ split: "a split", cover: "a cover", case: "cases", balance: "a balance" })[it.node.name]
     + (it.node.name === "balance" ? ` modulo ${it.node.numbers[0]}` : ` at ${simplexText(simplices[it.node.numbers[0]])}`);
-  const choose = at => { Object.assign(shown, { node: at, values: null }); changed("show", "never"); };
+  const choose = at => { Object.assign(shown, { node: at, values: null, outputs: false }); changed("show", "never"); };
   return [make("h3", {}, "Steps of the obstruction"), make("ol", { class: "nodes", "aria-label": "Steps of the obstruction" }, never.hands.slice(0, MOST_LISTED).map((it, at) => {
     const made = make("li", {}, make("button", { "aria-pressed": String(shown.node === at), class: shown.node === at ? "chosen" : "", onclick: () => choose(at) },
       make("b", {}, `${at + 1}. `), it.part === null ? "" : `case ${it.part + 1}: `, what(it)));
@@ -55,19 +55,29 @@ function transform(never, hand) {
   const nameOf = v => hand.names.get(v) ?? valueName(v);
   const drawn = drawOutputs(rules, simplex, nameOf, "");
   const lit = drawn ? simplexCells(drawn, rules, simplex) : new Set(), who = simplexText(simplex);
-  const about = {
-    split: [`All begin with ${who}. The lit triangles are what they may decide. At a pinch point (×) they fall apart into pieces that meet at that point alone.`,
+  const sheets = plural(node.numbers[1] ?? 0, "sheet"), about = {
+    split: [`All begin with ${who}. The lit triangles are what they may decide. At the ringed point they fall apart into pieces that have that point alone in common.`,
       "A protocol's executions don't: they are connected at every point, since steps of the others join them. So a map that decides this value stays in one piece. "
       + "The split gives the value another name in each piece: the pinch point becomes two points."],
     case: [`All begin with ${who}. What they may decide falls into pieces that no step of one process joins. The executions are connected, so a map stays in one piece.`,
       "There is one case for each piece, and each is refuted below."],
-    cover: [`All begin with ${who}. What they may decide has a hole. The subdivided triangle has none, so a map can be lifted to a complex that goes round the hole several times before it closes: a cover, with ${
-      plural(node.numbers[1], "sheet")}.`, "In the cover each value has a name for each sheet, and there a balance refutes the map."],
+    cover: [`All begin with ${who}. What they may decide has a hole. The subdivided triangle has none, so a map can be lifted to a complex that goes round the hole several times before it closes: a cover, with ${sheets}.`, "In the cover each value has a name for each sheet, and there a balance refutes the map."],
   }[node.name];
-  const after = next ? make("button", { class: "plain", onclick: () => { Object.assign(shown, { node: at + 1, values: null, outputs: false }); changed("show", "never"); } },
+  const after = next ? make("button", { class: "plain", onclick: () => { Object.assign(shown, { node: at + 1, values: null, outputs: next.node.name === "balance" }); changed("show", "never"); } },
     { split: "After the split", case: "The first case", cover: "In the cover" }[node.name]) : null;
   if (drawn) view.hint = `${plural(lit.size, "tuple")} ${lit.size === 1 ? "is" : "are"} lit. Point at a shape to read which decision it is.`;
   side(never, nodeList(never), about.map(it => make("p", {}, it)), after ? make("p", {}, after) : null);
+}
+
+/** What may be decided in the task that splits, cases and covers have made. */
+function outputsAtHand(never, hand) {
+  const { rules } = hand, simplex = rules.facets.find(it => it.length === rules.processes) ?? rules.facets[0], above = never.hands[shown.node - 1].node.name;
+  const drawn = drawOutputs(rules, simplex, v => hand.names.get(v) ?? valueName(v), "");
+  if (drawn) view.hint = "Point at a shape to read which decision it is.";
+  const about = { split: "After the split: the piece that had the point in common with another has a point of its own, whose value is written with a stroke.",
+    case: "This case: of what was allowed, one piece is left.", cover: "In the cover each value is there once on each sheet." }[above];
+  side(never, nodeList(never), make("p", {}, about), make("p", {}, "What is left has no map either, and one sum of equations shows it."),
+    make("p", {}, make("button", { class: "plain", onclick: () => { shown.outputs = false; changed("show", "never"); } }, "Play with the balance")));
 }
 
 /** A balance: the points decide anything, and the count stays. */
@@ -113,7 +123,8 @@ function play(never, hand) {
   side(never, nodeList(never),
     make("p", {}, `Let the points decide anything. The lit executions count, with sign and weight, and their sum is ${weights.sum} modulo ${weights.modulus}, whatever is decided. A decision map would have 0.`),
     sum, note, make("p", { class: "tools" }, make("button", { class: "plain", onclick: () => { shown.values = draw(); count(); } }, "Other values"), " after ", more),
-    make("p", {}, make("label", {}, any, " also values that the inputs forbid")));
+    make("p", {}, make("label", {}, any, " also values that the inputs forbid")),
+    never.nodes.length > 1 && rules.processes < 4 ? make("p", {}, make("button", { class: "plain", onclick: () => { shown.outputs = true; changed("show", "never"); } }, "What is allowed here")) : null);
   legend(rules.values, "decided", isOnePicture(rules.facets) ? null : inputChooser(rules.facets, facets, chosen => { state.facets = chosen; changed("show", "never"); }));
 }
 

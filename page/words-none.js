@@ -44,7 +44,12 @@ export function wordsOfNone(found, chooser) {
     });
   };
   const current = () => byNumber.get(chosen) ?? null;
-  const choose = number => { chosen = chosen === number ? null : number; light(current()); };
+  const choose = number => {
+    chosen = chosen === number ? null : number;
+    light(current());
+    const step = current(), about = new Set(step ? [step.execution, ...step.cites.map(it => byNumber.get(it)?.execution)] : []);
+    if (step) view.zoom?.fit(view.drawing.cells.filter(it => about.has(it.execution)).flatMap(it => it.places)); else view.zoom?.reset();
+  };
   const entry = it => {
     const isStep = it.kind === "step", made = make("li", {}, isStep ? make("button", { "aria-pressed": "false", onclick: () => choose(it.number),
       onpointerenter: () => light(it), onpointerleave: () => light(current()), onfocus: () => light(it), onblur: () => light(current()) },

@@ -1,7 +1,7 @@
 // The output complex: what may be decided, with the tuples lit that some inputs allow.
 import { find, isNarrow, make, plural } from "./dom.js";
 import { legend, simplexText } from "./legend.js";
-import { pinched, allowedSimplices, sceneOfOutputs, simplexCells } from "./outputs.js";
+import { allowedSimplices, pinched, sceneOfOutputs, simplexCells } from "./outputs.js";
 import { state, valueName } from "./state.js";
 import { paint, showScene, view } from "./view.js";
 import { vertexKey } from "./tasks.js";
@@ -15,10 +15,12 @@ export function drawOutputs(rules, simplex, nameOf, what = "may be decided") {
   showScene(drawn?.scene ?? null, rules.values, rules.processes > 3 ? "The outputs of four processes are not drawn." : "There are too many outputs to see anything.");
   if (!drawn) { legend([], ""); return null; }
   Object.assign(view, { made: null, valueName: nameOf, tells: false });
-  const tuple = it => it.map(([p, v]) => `p${p} decides ${nameOf(v)}`).join(", "), lit = simplexCells(drawn, rules, simplex);
+  const tuple = it => drawn.alone ? it.map(([, v]) => nameOf(v)).join(" and ") + (it.length > 1 ? " are decided together" : " is decided")
+    : it.map(([p, v]) => `p${p} decides ${nameOf(v)}`).join(", ");
+  const lit = simplexCells(drawn, rules, simplex);
   view.spotWords = at => tuple([drawn.vertices[at]]);
   view.cellWords = at => `${tuple(drawn.listed[at])}${lit.has(at) ? `: allowed for ${simplexText(simplex)}` : ": not allowed here"}`;
-  const pinches = new Set(pinched(allowedSimplices(rules, simplex)));
+  const pinches = new Set(drawn.alone ? [] : pinched(allowedSimplices(rules, simplex)));
   paint({
     cell: at => lit.has(at) ? { marks: ["lit"] } : {},
     spot: at => ({ value: drawn.vertices[at][1], marks: pinches.has(vertexKey(drawn.vertices[at])) ? ["empty"] : [] }),
@@ -40,9 +42,10 @@ export function wordsOfOutputs() {
     listed.slice(0, MOST_OPTIONS).map((it, at) => make("option", { value: at, selected: at === shown.at }, `{${simplexText(it)}}`)));
   find("words").className = "";
   const pinches = drawn ? [...drawn.pinches].map(it => { const [p, v] = it.split("=").map(Number); return `p${p} = ${valueName(v)}`; }) : [];
-  find("words").replaceChildren(make("h3", {}, "What is allowed: Δ"), make("p", {}, "With ", choose, ` they may decide ${plural(tuples.length, "tuple")}.`),
-    make("p", {}, "A shape is a process that decides a value. An edge or a triangle is what two or three decide together."),
+  find("words").replaceChildren(...[make("h3", {}, "What is allowed: Δ"), make("p", {}, "With ", choose, ` they may decide ${plural(tuples.length, "tuple")}.`),
+    make("p", {}, drawn?.alone ? "Who decides what makes no difference here. So a circle is a value, and an edge or a triangle are values that may be decided together."
+      : "A shape is a process that decides a value. An edge or a triangle is what two or three decide together."),
     pinches.length ? make("p", {}, `The lit triangles fall apart at ${pinches.join(" and ")}.`) : null,
     make("ul", { class: "tuples", "aria-label": "Allowed tuples" }, tuples.slice(0, MOST_OPTIONS).map(it => make("li", {}, `(${it.map(valueName).join(", ")})`))),
-    tuples.length > MOST_OPTIONS ? make("p", { class: "soft" }, `and ${plural(tuples.length - MOST_OPTIONS, "tuple")} more in the task's file`) : "");
+    tuples.length > MOST_OPTIONS ? make("p", { class: "soft" }, `and ${plural(tuples.length - MOST_OPTIONS, "tuple")} more in the task's file`) : null].filter(Boolean));
 }

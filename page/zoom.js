@@ -1,7 +1,7 @@
 // Zoom and pan of a picture: by the wheel, by two fingers, by dragging, by buttons and by keys. Labels show where they are large enough.
 import { short } from "./palette.js";
 
-const MOST = 24, MOVED = 5;
+const MOST = 24, MOVED = 5, MOST_GROWN = 3;
 
 export class Zoom {
   /** @param {import("./drawing.js").Drawing} drawing @param {HTMLElement} frame @param {HTMLElement} button  shows the whole again */
@@ -40,6 +40,17 @@ export class Zoom {
     this.apply();
   }
 
+  /** Shows what lies about some places, if the labels can't be read as it is. @param {[number, number][]} places */
+  fit(places) {
+    if (!places.length || this.drawing.isReadable && this.scale === 1) return;
+    const [left, right, top, bottom] = [0, 1].flatMap(axis => [Math.min(...places.map(it => it[axis])), Math.max(...places.map(it => it[axis]))]);
+    const part = Math.max((right - left) / this.whole[0], (bottom - top) / this.whole[1], 1 / MOST) * 2.2;
+    this.scale = Math.max(1, Math.min(MOST, 1 / part));
+    this.left = (left + right) / 2 - this.whole[0] / this.scale / 2;
+    this.top = (top + bottom) / 2 - this.whole[1] / this.scale / 2;
+    this.apply();
+  }
+
   reset() {
     this.scale = 1;
     this.left = this.top = 0;
@@ -67,6 +78,8 @@ export class Zoom {
   measure() {
     const before = this.drawing.isReadable;
     this.drawing.zoom = this.unit;
+    // the names of corners are as large as other text, however small the whole is shown
+    this.root.style.setProperty("--grow", String(Math.max(1, Math.min(MOST_GROWN, 14 / 15 * this.scale / this.unit))));
     this.button.disabled = this.scale === 1;
     if (this.drawing.isReadable !== before) this.drawing.paint(this.drawing.look);
   }
