@@ -23,10 +23,11 @@ class Exit {
  * @param {(string | Uint8Array)[]} words       the command's words, without the program's name
  * @param {string | Uint8Array} stdin
  * @param {Record<string, string | Uint8Array | null>} files   by name; null is a folder
- * @param {{heard?: (line: string) => void, limit?: number}} how   `heard` gets standard error as it comes; `limit` is in bytes
+ * @param {{heard?: (line: string) => void, limit?: number, main?: string}} how   `heard` gets standard error as it comes; `limit` is in bytes;
+ *   `main` names another function to call, for tests
  * @returns {Ended}
  */
-export function run(module, words, stdin, files = {}, { heard, limit } = {}) {
+export function run(module, words, stdin, files = {}, { heard, limit, main = "main" } = {}) {
   const args = ["wfcheck", ...words].map(bytesOfText), written = { 1: [], 2: [] };
   const open = new Map([[0, { bytes: bytesOfText(stdin), at: 0 }]]);
   let instance, next = 3;
@@ -69,7 +70,7 @@ export function run(module, words, stdin, files = {}, { heard, limit } = {}) {
   if (limit !== undefined) instance.exports.set_limit(BigInt(limit));
   let status = 0, trap;
   try {
-    status = instance.exports.main(0, 0n);
+    status = instance.exports[main](0, 0n);
   } catch (end) {
     if (end instanceof Exit) status = end.status; else { status = 3; trap = String(end); }
   }

@@ -8,7 +8,6 @@ import { notDrawn, sceneOf } from "./scene.js";
 import { changed, inputName, state, valueName } from "./state.js";
 import { paint, read, readComplex, showScene, view } from "./view.js";
 import { Complex } from "./subdivision.js";
-import { simplexCells } from "./outputs.js";
 
 const MOST_FACETS = 8, MOST_LISTED = 200;
 /** What is shown of an obstruction: which node, after how many rounds, the values of the points, and whether any value may be drawn. */
@@ -54,7 +53,7 @@ function transform(never, hand) {
   const { node, rules } = hand, simplex = rules.simplices[node.numbers[0]], at = shown.node, next = never.hands[at + 1];
   const nameOf = v => hand.names.get(v) ?? valueName(v);
   const drawn = drawOutputs(rules, simplex, nameOf, "");
-  const lit = drawn ? simplexCells(drawn, rules, simplex) : new Set(), who = simplexText(simplex);
+  const who = simplexText(simplex);
   const sheets = plural(node.numbers[1] ?? 0, "sheet"), about = {
     split: [`All begin with ${who}. The lit triangles are what they may decide. At the ringed point they fall apart into pieces that have that point alone in common.`,
       "A protocol's executions don't: they are connected at every point, since steps of the others join them. So a map that decides this value stays in one piece. "
@@ -65,7 +64,7 @@ function transform(never, hand) {
   }[node.name];
   const after = next ? make("button", { class: "plain", onclick: () => { Object.assign(shown, { node: at + 1, values: null, outputs: next.node.name === "balance" }); changed("show", "never"); } },
     { split: "After the split", case: "The first case", cover: "In the cover" }[node.name]) : null;
-  if (drawn) view.hint = `${plural(lit.size, "tuple")} ${lit.size === 1 ? "is" : "are"} lit. Point at a shape to read which decision it is.`;
+  if (drawn) view.hint = "Lit: what they may decide. Point at a shape, an edge or a triangle to read it.";
   side(never, nodeList(never), about.map(it => make("p", {}, it)), after ? make("p", {}, after) : null);
 }
 

@@ -8,6 +8,8 @@ import { vertexKey } from "./tasks.js";
 
 const MOST_OPTIONS = 300;
 const shown = { task: null, at: 0 };
+/** A name that fits into a shape. @param {string} name */
+const inside = name => name.length <= 3 ? name : undefined;
 
 /** Draws the outputs of a task, with those lit that a simplex allows, or says that they are too many. @returns the drawn complex, or null */
 export function drawOutputs(rules, simplex, nameOf, what = "may be decided") {
@@ -21,11 +23,13 @@ export function drawOutputs(rules, simplex, nameOf, what = "may be decided") {
   view.spotWords = at => tuple([drawn.vertices[at]]);
   view.cellWords = at => `${tuple(drawn.listed[at])}${lit.has(at) ? `: allowed for ${simplexText(simplex)}` : ": not allowed here"}`;
   const pinches = new Set(drawn.alone ? [] : pinched(allowedSimplices(rules, simplex)));
+  // a vertex that is lit has a ring if nothing larger about it is lit
+  const covered = new Set([...lit].filter(at => drawn.listed[at].length > 1).flatMap(at => drawn.scene.cells[at].spots));
   paint({
-    cell: at => lit.has(at) ? { marks: ["lit"] } : {},
-    spot: at => ({ value: drawn.vertices[at][1], marks: pinches.has(vertexKey(drawn.vertices[at])) ? ["empty"] : [] }),
+    cell: at => lit.has(at) && !(drawn.listed[at].length === 1 && covered.has(drawn.scene.cells[at].spots[0])) ? { marks: ["lit"] } : {},
+    spot: at => ({ value: drawn.vertices[at][1], text: inside(nameOf(drawn.vertices[at][1])), marks: pinches.has(vertexKey(drawn.vertices[at])) ? ["empty"] : [] }),
   });
-  const names = new Map(drawn.vertices.map(([, v], at) => [at, nameOf(v)]).filter(([at, name]) => name !== String(drawn.vertices[at][1])));
+  const names = new Map(drawn.vertices.map(([, v], at) => [at, nameOf(v)]).filter(([, name]) => inside(name) === undefined));
   if (names.size && names.size <= 40) view.drawing.nameSpots(names);
   legend(rules.values, what);
   return { ...drawn, pinches };
