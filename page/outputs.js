@@ -50,9 +50,10 @@ export const ANYBODY = -1;
 export const valuesAlone = simplex => [...new Set(simplex.map(([, v]) => v))].sort((a, b) => a - b).map(v => [ANYBODY, v]);
 
 /** The scene of the output complex, with its vertices and simplices, or null if it is too large. A cell's number is that of its simplex, and a
- * spot's number that of its vertex. @param {Rules} rules @param {{least?: number}} how */
-export function sceneOfOutputs(rules, { least = 380 } = {}) {
-  const alone = isColourless(rules), listed = alone ? simplicesOf(outputsOf(rules).map(valuesAlone)) : outputsOf(rules), vertices = listed.filter(it => it.length === 1).map(it => it[0]);
+ * spot's number that of its vertex. @param {Rules} rules @param {{least?: number, chromatic?: boolean}} how  `chromatic` if processes are told apart
+ * in any case */
+export function sceneOfOutputs(rules, { least = 380, chromatic = false } = {}) {
+  const alone = !chromatic && isColourless(rules), listed = alone ? simplicesOf(outputsOf(rules).map(valuesAlone)) : outputsOf(rules), vertices = listed.filter(it => it.length === 1).map(it => it[0]);
   if (rules.processes > 3 || !vertices.length || vertices.length > MOST_VERTICES) return null;
   const places = placesOf(listed), wide = Math.max(...[...places.values()].map(it => it[0]));
   const scale = Math.min(SIDE * (vertices.length <= 12 ? 1.6 : 1), WIDEST / Math.max(wide, 1));
