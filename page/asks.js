@@ -6,8 +6,8 @@ import { handsOf, nodesOf } from "./obstructions.js";
 import { changed, forget, on, roundsAsked, state } from "./state.js";
 
 const LONG = 15, MOST_NODES = 400;
-const REFUSALS = { 2: "the text is not JSON", 15: "the page has no more memory for it", 16: "more than 8 rounds are not asked", 17: "the complex has more than 500,000 executions",
-  50: "an obstruction needs all executions, and a first block leaves some out" };
+const REFUSALS = { 2: "the text is not JSON", 15: "the page has no more memory for it", 16: "more than 8 rounds are not asked",
+  17: "the complex has more than 500,000 executions", 50: "an obstruction needs all executions, and a first block leaves some out" };
 
 export function setBusy(busy) {
   state.busy = busy;
@@ -58,8 +58,9 @@ export function send(message) {
   let doing = "starting";
   const tick = () => {
     if (!state.busy || state.evidence !== evidence) return;
-    const spent = (performance.now() - from) / 1000, hint = spent > LONG ? " The search may have no end. Stop keeps what was found, and tools/ask also asks a SAT solver." : "";
-    find("doing").textContent = doing + (spent > 1 ? ` · ${spent.toFixed(0)} s` : "") + (hint ? "." + hint : "");
+    const spent = (performance.now() - from) / 1000;
+    const hint = spent > LONG ? ". The search may have no end. Stop keeps what was found, and tools/ask also asks a SAT solver." : "";
+    find("doing").textContent = doing + (spent > 1 ? ` · ${spent.toFixed(0)} s` : "") + hint;
     setTimeout(tick, 250);
   };
   tick();

@@ -52,7 +52,8 @@ function filter() {
 function more() {
   const listed = atlas.found.slice(atlas.shown, atlas.shown + STEP);
   atlas.shown += listed.length;
-  find("table-rows").append(...listed.map(it => make("tr", { "data-code": it.code }, make("td", {}, make("button", { class: "code", title: `Ask about ${it.code}` }, it.code)),
+  find("table-rows").append(...listed.map(it => make("tr", { "data-code": it.code },
+    make("td", {}, make("button", { class: "code", title: `Ask about ${it.code}` }, it.code)),
     make("td", {}, it.answer), make("td", {}, it.by), make("td", {}, String(it.tuples)))));
 }
 

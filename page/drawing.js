@@ -67,7 +67,8 @@ export class Drawing {
     const { cell = () => ({}), spot = () => ({}) } = look;
     this.layers.badges.replaceChildren();
     const looks = this.cells.map(it => cell(it.execution));
-    this.root.classList.toggle("fine", this.scene.radius < READABLE && looks.filter(it => it.marks?.includes("lit")).length > MANY_MARKS);
+    const lit = looks.filter(it => it.marks?.includes("lit")).length;
+    this.root.classList.toggle("fine", this.scene.radius < READABLE && lit > MANY_MARKS);
     this.cells.forEach((it, at) => this.paintCell(it, looks[at]));
     for (const it of this.spots) this.paintSpot(it, spot(it.point));
   }
@@ -99,8 +100,8 @@ export class Drawing {
   badge(it, text, marks) {
     const [x, y, size] = labelPlace(it.places, it.middle, this.scene.radius), sign = marks.includes("plus") ? " plus" : "";
     const wide = Math.max(size * 1.55, size * (0.62 * text.length + 0.7)), high = size * 1.56;
-    this.layers.badges.append(element("g", { class: "mark", "data-e": it.execution },
-      element("rect", { class: "badge" + sign, x: short(x - wide / 2), y: short(y - high / 2), width: short(wide), height: short(high), rx: short(high / 2) }),
+    const box = { x: short(x - wide / 2), y: short(y - high / 2), width: short(wide), height: short(high), rx: short(high / 2) };
+    this.layers.badges.append(element("g", { class: "mark", "data-e": it.execution }, element("rect", { class: "badge" + sign, ...box }),
       element("text", { class: "number" + sign, x: short(x), y: short(y + size * 0.36), "font-size": short(size) }, text)));
   }
 

@@ -5,14 +5,14 @@ import { setTask } from "./state.js";
 import { openTab } from "./tabs.js";
 import { LONGEST } from "./tasks.js";
 
-const MOST_SHOWN = 200000;
+const MOST_SHOWN = 200000, TOO_LONG = "refused, 1 TooLong: the file has more than 16,777,216 bytes";
 
 /** A name as a file may have it. @param {string} name */
 const fileName = name => name.replace(/\.json$/, "").replace(/[/\\\0]/g, "-").slice(0, 60) || "task";
 
 /** Makes a text the question. Where the page can't read it, the program is asked for its refusal. @param {string} text @param {string} name */
 export function takeText(text, name) {
-  const problem = text.length > LONGEST ? "refused, 1 TooLong: the file has more than 16,777,216 bytes" : setTask({ name: fileName(name), text, source: { kind: "file" } });
+  const problem = text.length > LONGEST ? TOO_LONG : setTask({ name: fileName(name), text, source: { kind: "file" } });
   tell("error-file", problem ?? "");
   if (!problem || text.length > LONGEST) return;
   command({ kind: "points", rounds: 0, task: text }, it => {
@@ -27,7 +27,7 @@ export function takeText(text, name) {
 async function takeFile(file) {
   if (!file) return;
   openTab("file", false);
-  if (file.size > LONGEST) { tell("error-file", "refused, 1 TooLong: the file has more than 16,777,216 bytes"); return; }
+  if (file.size > LONGEST) { tell("error-file", TOO_LONG); return; }
   const text = await file.text();
   find("paste").value = text.length < MOST_SHOWN ? text : "";
   takeText(text, file.name);

@@ -28,7 +28,7 @@ onmessage = ({ data }) => {
     });
     postMessage({ kind: "made", text });
   } catch (error) {
-    const isMistake = error instanceof Mistake;
-    postMessage({ kind: "mistake", text: isMistake ? error.message : String(error), line: lineOf(isMistake ? error.cause ?? error : error, data.lines) });
+    const isMistake = error instanceof Mistake, line = lineOf(isMistake ? error.cause ?? error : error, data.lines);
+    postMessage({ kind: "mistake", text: isMistake ? error.message : String(error), line, isOfPredicate: error.isOfPredicate === true });
   }
 };

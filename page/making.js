@@ -100,12 +100,15 @@ export function taskFrom({ processes, inputs, values, symmetric, firstBlock }, l
     left -= found.length;
     return [start, found];
   });
-  if (!rules.some(([, it]) => it.length)) throw new Mistake("The predicate allows nothing, whatever the processes begin with.");
+  if (!rules.some(([, it]) => it.length)) throw ofPredicate("The predicate allows nothing, whatever the processes begin with.");
   const text = textOf({ processes, symmetric, firstBlock }, rules);
   judgeNumber("listed outputs", JSON.parse(text).outputs.length);
   if (text.length > LONGEST) throw new Mistake(`The file has more than ${LONGEST} bytes.`);
   return text;
 }
+
+/** A mistake of the predicate itself. */
+const ofPredicate = (words, cause = undefined) => Object.assign(new Mistake(words, { cause }), { isOfPredicate: true });
 
 /** What a predicate says of a choice. Throws a Mistake, whose cause is what the predicate threw. */
 export function isLegal(legal, start, values) {
@@ -114,7 +117,7 @@ export function isLegal(legal, start, values) {
   const guarded = pairs => new Proxy(Object.fromEntries(pairs), {
     get(target, key) {
       if (typeof key === "string" && /^\d+$/.test(key) && !(key in target)) {
-        throw new Mistake(`The predicate looks up process ${key} where only ${who.join(" and ")} ${who.length > 1 ? "take" : "takes"} part. `
+        throw ofPredicate(`The predicate looks up process ${key} where only ${who.join(" and ")} ${who.length > 1 ? "take" : "takes"} part. `
           + "It is asked for each part of each input, since some may run alone.");
       }
       return target[key];
@@ -125,11 +128,11 @@ export function isLegal(legal, start, values) {
     answer = legal(guarded(start), guarded(end));
   } catch (error) {
     if (error instanceof Mistake) throw error;
-    throw new Mistake(`The predicate fails where start is ${told(start)} and end is ${told(end)}: ${error}`, { cause: error });
+    throw ofPredicate(`The predicate fails where start is ${told(start)} and end is ${told(end)}: ${error}`, error);
   }
   if (typeof answer !== "boolean") {
     const what = answer === undefined || answer === null ? "nothing" : `${typeof answer === "object" ? "an object" : `the ${typeof answer} ${String(answer)}`}`;
-    throw new Mistake(`The predicate answers ${what} where start is ${told(start)} and end is ${told(end)}. It has to answer true or false`
+    throw ofPredicate(`The predicate answers ${what} where start is ${told(start)} and end is ${told(end)}. It has to answer true or false`
       + (what === "nothing" ? ": is a return missing?" : "."));
   }
   return answer;

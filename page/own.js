@@ -90,7 +90,7 @@ export function makeOwn() {
       }
       over();
       const problem = it.kind === "made" ? setTask({ name: own.name, text: String(it.text), names: ready.names, source: { kind: "own", own } }) : null;
-      if (it.kind === "mistake") mistaken(String(it.text), typeof it.line === "number" ? it.line : lineOfLegal(own.code));
+      if (it.kind === "mistake") mistaken(String(it.text), typeof it.line === "number" ? it.line : it.isOfPredicate ? lineOfLegal(own.code) : null);
       else if (problem) mistaken(problem);
       done(it.kind === "made" && !problem);
     };
