@@ -153,7 +153,7 @@ def ways(visit):
     yield "one at random", lacks(visit.window.script("return document.getElementById('code').value"), "b-")
     visit.window.click("#tab-own")
     for example, wanted in [("consensus", "mine: never"), ("vote", "vote-1: never"), ("approximate", "thirds: from 1"), ("agreement", "two-of-three: never"),
-                            ("renaming", "renaming: from 1"), ("leader", "leader: never")]:
+                            ("renaming", "renaming: from 2"), ("leader", "leader: never")]:
         visit.fill(example=example)
         visit.ask()
         yield f"the example {example}", lacks(visit.text("headline"), wanted)
@@ -281,7 +281,7 @@ def hostile(visit):
     yield "no request was sent", unlike([it for it in visit.window.requests() if it.startswith(("http", "ws"))], [])
     visit.window.logged()
     visit.fill(example="vote")
-    visit.fill(names_values=f"0={MARKUP}, 1=yes, 2=abstain", name="x<b>y</b>")
+    visit.fill(names_values=f"0={MARKUP}, 1=yes, 2=abstain", name="x<b>y")
     visit.ask()
     visit.window.script("document.querySelector('[data-key=outputs]').click()")
     yield "names with markup", unlike(visit.window.script("return [document.querySelectorAll('#answer img, #question img, #answer b b').length, document.title === 'reached']"), [0, False])
@@ -368,10 +368,10 @@ def gallery(visit):
     begun = time.monotonic()
     for line in [it for it in known.lines() if it.rounds == known.EVERY]:
         # beyond a row that takes longer there is nothing to ask about here
-        short = [it for it in rows.get(line.task, []) if it.answer in ("map", "none") and it.time in ("< 1 s", "1 s", "2 s")]
-        most = max((it.rounds for it in short), default=0)
-        while most and not all(any(it.rounds == at for it in short) for at in range(min(it.rounds for it in short), most + 1)):
-            most -= 1
+        of_task = rows.get(line.task, [])
+        long = [it.rounds for it in of_task if it.answer not in ("map", "none") or it.time not in ("< 1 s", "1 s", "2 s")]
+        most = min(max((it.rounds for it in of_task), default=0), min(long, default=9) - 1)
+        short = [it for it in of_task if it.rounds <= most]
         visit.window.script("document.getElementById('rounds').value = arguments[1]; document.querySelector(`#list input[value=\"${arguments[0]}\"]`).click();"
                             "document.getElementById('ask').click()", line.task, most)
         visit.settle()

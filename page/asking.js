@@ -5,6 +5,8 @@ import { run } from "./instance.js";
 /** @typedef {(message: Record<string, any>) => void} Tell */
 
 const decoder = new TextDecoder();
+/** How long a certificate may be, in characters, that is also told in words. */
+const MOST_TOLD = 400000;
 /** How often a command's progress is handed on, in milliseconds; how many bytes a command may take. */
 const EVERY = 100;
 const GAVE_UP = /: (60 GaveUp|50 FirstBlock)/;
@@ -47,7 +49,9 @@ export class Asking {
     return null;
   }
 
+  /** A certificate in words, or nothing if it is too long for anybody to read. @param {string} text */
   explained(text) {
+    if (text.length > MOST_TOLD) return "";
     return this.command(["explain", "--task", "task.json"], text, { "task.json": this.task }).out;
   }
 

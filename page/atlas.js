@@ -71,4 +71,4 @@ find("table-rows").addEventListener("keydown", event => {
   to.querySelector("button").focus();
 });
 find("table").addEventListener("scroll", () => { const it = find("table"); if (it.scrollTop + it.clientHeight > it.scrollHeight - 300) more(); });
-for (const id of ["filter-answer", "filter-by", "filter-code", "filter-least", "filter-most", "filter-rounds"]) find(id).addEventListener("input", later(filter, 60));
+for (const it of ["answer", "by", "code", "least", "most", "rounds"]) find("filter-" + it).addEventListener("input", later(filter, 60));

@@ -27,7 +27,8 @@ export function balanced(rules, node) {
   }
   const rest = it => ((it % modulus) + modulus) % modulus;
   const kept = new Map([...tuples].map(([at, it]) => [at, rest(it)]).filter(([, it]) => it));
-  return { modulus, sum: rest(total), tuples: kept, simplices: [...new Map([...kept.keys()].map(at => [keyOf(simplices.get(at)), simplices.get(at)])).values()] };
+  const counted = new Map([...kept.keys()].map(at => [keyOf(simplices.get(at)), simplices.get(at)]));
+  return { modulus, sum: rest(total), tuples: kept, simplices: [...counted.values()] };
 }
 
 /** The values from which each point draws: those that the task allows there to its process, or all if it allows none.

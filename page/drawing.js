@@ -55,8 +55,9 @@ export class Drawing {
   spot(it) {
     const [x, y] = it.at, radius = this.scene.radius * 1.1;
     const value = outline(it.process, x, y, radius * 0.74, { class: "value" }), text = element("text", { class: "inside", x: short(x) });
-    const made = element("g", { class: "at", "data-v": it.point, tabindex: -1, role: "img" },
-      outline(it.process, x, y, radius + 4, { class: "halo" }), outline(it.process, x, y, radius, { class: it.process < 0 ? "spot any" : "spot p" + it.process }), value, text);
+    const shape = outline(it.process, x, y, radius, { class: it.process < 0 ? "spot any" : "spot p" + it.process });
+    const made = element("g", { class: "at", "data-v": it.point, tabindex: -1, role: "img" }, outline(it.process, x, y, radius + 4, { class: "halo" }),
+      shape, value, text);
     this.layers.spots.append(made);
     return { ...it, value, text, element: made };
   }

@@ -45,7 +45,7 @@ export function boot() {
     },
     error => {
       find("engine").textContent = "the program can't run here";
-      tell("error-answer", error.message.startsWith("This browser") ? error.message : `The program can't run: ${error.message}`);
+      tell("error-engine", error.message.startsWith("This browser") ? error.message : `The program can't run: ${error.message}`);
     });
   return engine.ready;
 }

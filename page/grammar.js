@@ -26,7 +26,8 @@ export function factsOf(made) {
     let found;
     if (it.start) found = { process, inputs: new Map([[process, it.start[1]]]), saw: new Map(), knew: new Map() };
     else {
-      const every = it.seen.map(each => facts(each, order)), saw = new Map(every.flatMap(each => [...each.saw])), knew = new Map(every.flatMap(each => [...each.knew]));
+      const every = it.seen.map(each => facts(each, order));
+      const saw = new Map(every.flatMap(each => [...each.saw])), knew = new Map(every.flatMap(each => [...each.knew]));
       const inputs = new Map(every.flatMap(each => [...each.inputs]).sort(([a], [b]) => a - b));
       const last = 1 + Math.max(-1, ...[...saw.keys()].map(each => Number(each.split("@")[1])));
       saw.set(process + "@" + last, new Set(every.map(each => each.process)));
@@ -44,7 +45,10 @@ export function factsOf(made) {
 const knownTo = it => [...it.inputs.keys()], valuesOf = it => [...it.inputs.values()], placeOf = it => knownTo(it).indexOf(it.process);
 const seen = (it, at) => it.saw.get(it.process + "@" + at);
 const placeIn = (it, at) => [...seen(it, at)].sort((a, b) => a - b).indexOf(it.process);
-const othersAt = (listed, it, at) => [...listed].filter(([key]) => { const [p, when] = key.split("@"); return Number(when) === at && Number(p) !== it.process; }).map(([, each]) => each);
+const othersAt = (listed, it, at) => [...listed].filter(([key]) => {
+  const [p, when] = key.split("@").map(Number);
+  return when === at && p !== it.process;
+}).map(([, each]) => each);
 const others = (it, at) => othersAt(it.saw, it, at), othersKnew = (it, at) => othersAt(it.knew, it, at);
 const isOnly = (set, value) => set.size === 1 && set.has(value);
 const range = (from, to) => Array.from({ length: Math.max(0, to - from) }, (_, at) => from + at);
@@ -124,7 +128,8 @@ export function outcomes(about) {
     { words: "the largest input it knows", value: it => Math.max(...valuesOf(it)), cost: BY_VIEW }];
   const ranks = [about.symmetric ? { words: "its rank", value: placeOf, cost: BY_VIEW } : { words: "its number", value: it => it.process, cost: BY_VIEW },
     ...range(0, about.rounds > 1 ? about.rounds : 0).map(at => ({ words: `its rank in round ${at + 1}`, value: it => placeIn(it, at), cost: BY_VIEW }))];
-  const scaledAll = (listed, factors) => listed.flatMap(it => factors.flatMap(factor => mores.filter(more => !isPlain(factor, more)).map(more => scaled(it, factor, more))));
+  const scaledAll = (listed, factors) => listed.flatMap(it => factors.flatMap(
+    factor => mores.filter(more => !isPlain(factor, more)).map(more => scaled(it, factor, more))));
   return [...found, ...inputs, ...ranks, ...scaledAll(inputs, range(1, most + 1)), ...scaledAll(ranks, [1, -1])];
 }
 

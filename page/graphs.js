@@ -125,7 +125,9 @@ export function disc(facets) {
   const around = neighbours(facets), places = polygon(cycle), inner = [...around.keys()].filter(it => !places.has(it));
   const middle = middleOf([...places.values()]);
   for (const it of inner) places.set(it, middle);
-  for (let turn = 0; turn < (inner.length ? TURNS : 0); turn++) for (const it of inner) places.set(it, middleOf(around.get(it).map(other => places.get(other))));
+  for (let turn = 0; turn < (inner.length ? TURNS : 0); turn++) {
+    for (const it of inner) places.set(it, middleOf(around.get(it).map(other => places.get(other))));
+  }
   const thinnest = Math.min(...facets.map(it => Math.abs(areaOf(it.map(vertex => places.get(vertexKey(vertex)))))));
   return thinnest > THINNEST ? places : null;
 }

@@ -23,12 +23,12 @@ class Exit {
  * @param {(string | Uint8Array)[]} words       the command's words, without the program's name
  * @param {string | Uint8Array} stdin
  * @param {Record<string, string | Uint8Array | null>} files   by name; null is a folder
- * @param {{heard?: (line: string) => void, limit?: number, main?: string}} how   `heard` gets standard error as it comes; `limit` is in bytes;
- *   `main` names another function to call, for tests
+ * @param {{heard?: (line: string) => void, limit?: number, main?: string, name?: string}} how   `heard` gets standard error as it comes; `limit` is in bytes;
+ *   `main` names another function to call, and `name` another program, for tests
  * @returns {Ended}
  */
-export function run(module, words, stdin, files = {}, { heard, limit, main = "main" } = {}) {
-  const args = ["wfcheck", ...words].map(bytesOfText), written = { 1: [], 2: [] };
+export function run(module, words, stdin, files = {}, { heard, limit, main = "main", name = "wfcheck" } = {}) {
+  const args = [name, ...words].map(bytesOfText), written = { 1: [], 2: [] };
   const open = new Map([[0, { bytes: bytesOfText(stdin), at: 0 }]]);
   let instance, next = 3;
   const bytes = (place, many) => new Uint8Array(instance.exports.memory.buffer, Number(place), Number(many));

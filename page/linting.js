@@ -86,7 +86,8 @@ function judgeNumbers(value) {
   for (const [where, simplex] of places(value)) {
     const listed = (simplex ?? []).map(([p]) => p), isAscending = listed.every((p, at) => !at || listed[at - 1] < p);
     if (isAscending && listed.every(p => p < processes)) continue;
-    throw new Refused("7 Colours", `${where}: ${shown(simplex)} has a process that ${isAscending ? `is not below ${processes}` : "comes after one that isn't smaller"}`);
+    const why = isAscending ? `is not below ${processes}` : "comes after one that isn't smaller";
+    throw new Refused("7 Colours", `${where}: ${shown(simplex)} has a process that ${why}`);
   }
 }
 
@@ -111,16 +112,19 @@ function judgeDelta(value, inputs) {
   });
   const known = new Set(inputs.map(keyOf));
   value.delta.forEach((it, place) => {
-    if (!known.has(keyOf(it.in))) throw new Refused(`11 DeltaStray ${place}`, `item ${place} of "delta" is for ${shown(it.in)}, which is no input, nor a face of one`);
+    if (known.has(keyOf(it.in))) return;
+    throw new Refused(`11 DeltaStray ${place}`, `item ${place} of "delta" is for ${shown(it.in)}, which is no input, nor a face of one`);
   });
   const outputs = new Set(value.outputs.flatMap(faces).map(keyOf)), listsAt = it => value.delta[entries.get(keyOf(it))[0]].out;
   const told = (at, place, values) => `at input simplex ${at}, ${shown(inputs[at])}, value list ${place} is ${shown(values)}`;
   inputs.forEach((it, at) => listsAt(it).forEach((values, place) => {
-    if (values.length !== it.length) throw new Refused(`12 OutLength ${at} ${place}`, `${told(at, place, values)}: ${values.length} values for ${it.length} processes`);
+    if (values.length === it.length) return;
+    throw new Refused(`12 OutLength ${at} ${place}`, `${told(at, place, values)}: ${values.length} values for ${it.length} processes`);
   }));
   inputs.forEach((it, at) => listsAt(it).forEach((values, place) => {
     const decided = it.map(([p], one) => [p, values[one]]);
-    if (!outputs.has(keyOf(decided))) throw new Refused(`13 OutStray ${at} ${place}`, `${told(at, place, values)}: ${shown(decided)} is no output, nor a face of one`);
+    if (outputs.has(keyOf(decided))) return;
+    throw new Refused(`13 OutStray ${at} ${place}`, `${told(at, place, values)}: ${shown(decided)} is no output, nor a face of one`);
   }));
   if (!inputs.length) throw new Refused("14 NoInput", '"inputs" is empty');
   const block = value.first_block ?? 1;

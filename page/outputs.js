@@ -53,7 +53,8 @@ export const valuesAlone = simplex => [...new Set(simplex.map(([, v]) => v))].so
  * spot's number that of its vertex. @param {Rules} rules @param {{least?: number, chromatic?: boolean}} how  `chromatic` if processes are told apart
  * in any case */
 export function sceneOfOutputs(rules, { least = 380, chromatic = false } = {}) {
-  const alone = !chromatic && isColourless(rules), listed = alone ? simplicesOf(outputsOf(rules).map(valuesAlone)) : outputsOf(rules), vertices = listed.filter(it => it.length === 1).map(it => it[0]);
+  const alone = !chromatic && isColourless(rules), listed = alone ? simplicesOf(outputsOf(rules).map(valuesAlone)) : outputsOf(rules);
+  const vertices = listed.filter(it => it.length === 1).map(it => it[0]);
   if (rules.processes > 3 || !vertices.length || vertices.length > MOST_VERTICES) return null;
   const places = placesOf(listed), wide = Math.max(...[...places.values()].map(it => it[0]));
   const scale = Math.min(SIDE * (vertices.length <= 12 ? 1.6 : 1), WIDEST / Math.max(wide, 1));
@@ -67,7 +68,8 @@ export function sceneOfOutputs(rules, { least = 380, chromatic = false } = {}) {
   return { scene: onSheet(scene, least), listed, vertices, alone };
 }
 
-/** The numbers of the output simplices that an input simplex allows. @param {{listed: Simplex[], alone: boolean}} drawn @param {Rules} rules @returns {Set<number>} */
+/** The numbers of the output simplices that an input simplex allows. @param {{listed: Simplex[], alone: boolean}} drawn @param {Rules} rules
+ * @param {Simplex} simplex @returns {Set<number>} */
 export function simplexCells(drawn, rules, simplex) {
   const numbers = new Map(drawn.listed.map((it, at) => [keyOf(it), at]));
   return new Set(allowedSimplices(rules, simplex).map(it => numbers.get(keyOf(drawn.alone ? valuesAlone(it) : it))));

@@ -117,7 +117,11 @@ entered.own = () => {
 find("panel-own").addEventListener("input", () => { if (state.task?.source.kind === "own") find("answer").classList.add("stale"); });
 find("predicate").addEventListener("input", () => mark(null));
 find("predicate").addEventListener("scroll", () => { find("gutter").scrollTop = find("predicate").scrollTop; });
-find("predicate").addEventListener("keydown", event => { if (event.key === "Enter" && (event.ctrlKey || event.metaKey)) { event.preventDefault(); changed("ask"); } });
+find("predicate").addEventListener("keydown", event => {
+  if (event.key !== "Enter" || !event.ctrlKey && !event.metaKey) return;
+  event.preventDefault();
+  changed("ask");
+});
 find("make").addEventListener("click", () => makeOwn());
 for (const [key, it] of Object.entries(EXAMPLES)) find("example").append(make("option", { value: key }, it.title));
 find("example").addEventListener("change", () => { setOwn(EXAMPLES[find("example").value]); entered.own(); });

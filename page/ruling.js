@@ -22,7 +22,11 @@ function bitsOf(truths) {
 const both = (a, b) => a.map((it, at) => it & b[at]), isEmpty = bits => bits.every(it => !it), keyOfBits = bits => bits.join();
 function manyIn(bits) {
   let sum = 0;
-  for (let it of bits) { it -= it >>> 1 & 0x55555555; it = (it & 0x33333333) + (it >>> 2 & 0x33333333); sum += Math.imul(it + (it >>> 4) & 0x0f0f0f0f, 0x01010101) >>> 24; }
+  for (let it of bits) {
+    it -= it >>> 1 & 0x55555555;
+    it = (it & 0x33333333) + (it >>> 2 & 0x33333333);
+    sum += Math.imul(it + (it >>> 4) & 0x0f0f0f0f, 0x01010101) >>> 24;
+  }
   return sum;
 }
 

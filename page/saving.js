@@ -60,7 +60,8 @@ export function pictureText() {
   }
   x = 24;
   for (const value of [...values].sort((a, b) => a - b)) {
-    keys.push(element("rect", { x, y: y + 10, width: 14, height: 14, rx: 2, fill: colour(value, drawing.palette), stroke: "#1b1f24" }), label(x + 20, y + 22, view.valueName(value)));
+    const box = { x, y: y + 10, width: 14, height: 14, rx: 2, fill: colour(value, drawing.palette), stroke: "#1b1f24" };
+    keys.push(element("rect", box), label(x + 20, y + 22, view.valueName(value)));
     x += 36 + 7 * view.valueName(value).length;
   }
   const style = find("picture-style").textContent.replace(/var\(--(\w+)\)/g, (all, name) => LIGHT[name] ?? all);
@@ -78,9 +79,11 @@ function whatIsShown() {
 /** The commands that ask and check the same in a shell. */
 export function commandsText() {
   const { evidence, task } = state, quote = it => /^[\w.-]+$/.test(it) ? it : `'${it.replaceAll("'", "'\\''")}'`, file = quote(`${task.name}.json`);
-  const lines = [{ known: `cp gallery/tasks/${file} .`, small: `tools/atlas --task ${task.source.code} > ${file}` }[task.source.kind] ?? `# ${file}: the button “task” saves it`];
+  const first = { known: `cp gallery/tasks/${file} .`, small: `tools/atlas --task ${task.source.code} > ${file}` }[task.source.kind];
+  const lines = [first ?? `# ${file}: the button “task” saves it`];
   if (evidence.never) {
-    lines.push(`wfcheck obstruction${evidence.never.covers ? " --covers 1" : ""} < ${file} > never.txt`, `wfverify --task ${file} < never.txt`, `wfcheck explain --task ${file} < never.txt`);
+    lines.push(`wfcheck obstruction${evidence.never.covers ? " --covers 1" : ""} < ${file} > never.txt`, `wfverify --task ${file} < never.txt`,
+      `wfcheck explain --task ${file} < never.txt`);
   }
   for (const it of [...evidence.rounds.values()].sort((a, b) => a.rounds - b.rounds)) {
     const out = `${it.answer}-${it.rounds}.txt`;

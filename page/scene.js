@@ -29,7 +29,7 @@ const MOST_TRIANGLES = 9000, MOST_EDGES = 3000, MOST_EXECUTIONS = 60000;
 /** Why the complex over some facets is not drawn after some rounds, or null if it is: "large".
  * @param {import("./tasks.js").Rules} rules */
 export function notDrawn(rules, rounds, facets) {
-  const parts = size => facets.reduce((sum, it) => sum + (it.length === 4 ? { 2: 9, 3: 4 }[size] : it.length === size ? 1 : it.length === 3 && size === 2 ? 3 : 0), 0);
+  const each = { 2: { 2: 1, 3: 3, 4: 9 }, 3: { 3: 1, 4: 4 } }, parts = size => facets.reduce((sum, it) => sum + (each[size][it.length] ?? 0), 0);
   const many = size => parts(size) * blockWords(size, rules.firstBlock).length ** rounds;
   return many(3) > MOST_TRIANGLES || many(2) > MOST_EDGES || manyExecutions(rules, rounds, 3) > MOST_EXECUTIONS ? "large" : null;
 }

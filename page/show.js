@@ -72,7 +72,8 @@ function drawComplex(rounds, facets) {
     readComplex(complex, rounds);
     return;
   }
-  showScene(null, [], `After ${plural(rounds, "round")} this complex has ${plural(manyExecutions(rules, rounds), "execution")}: too many to see anything. The certificate has them all.`);
+  showScene(null, [], `After ${plural(rounds, "round")} this complex has ${plural(manyExecutions(rules, rounds), "execution")}: too many to see anything. `
+    + "The certificate has them all.");
 }
 
 /** What stands beside a complex about which nothing was asked. */
@@ -82,11 +83,24 @@ function wordsOfNothing(rounds) {
   view.hint = "Point at a shape to read what its process knows, or at an execution to read who sees whom.";
   find("words").className = "";
   find("words").replaceChildren(make("h3", {}, rounds ? `What they may know after ${plural(rounds, "round")}` : "What they begin with"),
-    make("p", {}, "A shape is a point: what a process knows after the last round. Its shape and shade say which process it is. A triangle, an edge or a corner is an execution of three, two or one process."),
-    four ? make("p", {}, "The boundary of a tetrahedron is drawn, unfolded: the fourth process stands at three corners, and edges with one letter are one. Executions of all four are left out.") : "",
+    make("p", {}, "A shape is a point: what a process knows after the last round. Its shape and shade say which process it is. "
+      + "A triangle, an edge or a corner is an execution of three, two or one process."),
+    four ? make("p", {}, "The boundary of a tetrahedron is drawn, unfolded: the fourth process stands at three corners, and edges with one letter are one. "
+      + "Executions of all four are left out.") : "",
     make("p", {}, "A decision map gives each point a value, so that each execution decides an allowed tuple."),
     make("p", { class: "soft" }, `${plural(manyExecutions(rules, rounds), "execution")} after ${plural(rounds, "round")}.`),
     state.busy ? "" : make("button", { class: "plain", onclick: () => send({ kind: "round", rounds }) }, `Ask about ${plural(rounds, "round")} alone`));
+}
+
+/** What stands beside the complex of a refutation that is too long to be told. */
+function wordsOfLong(found) {
+  const lines = found.text.split("\n").length;
+  paint({});
+  view.hint = "Point at a shape to read what its process knows, or at an execution to read who sees whom.";
+  find("words").className = "";
+  find("words").replaceChildren(make("h3", {}, `No decision map after ${plural(found.rounds, "round")}`),
+    make("p", {}, `The refutation has ${plural(lines, "line")}: too many to be read. The checker says: ${found.verdict}.`),
+    make("p", { class: "soft" }, "The certificate has them all, and wfcheck explain writes them in words."));
 }
 
 /** What stands beside the complex if no obstruction was found. */
@@ -106,10 +120,11 @@ function show(key) {
     const rounds = typeof key === "number" ? key : Math.min(1, evidence.rounds.size), found = typeof key === "number" ? evidence.rounds.get(key) : null;
     const facets = facetsFor(found, rounds);
     drawComplex(rounds, facets);
-    const chooser = facets === rules.facets && !state.facets ? null : inputChooser(rules.facets, facets, chosen => { state.facets = chosen; changed("show", state.shown); });
+    const choose = chosen => { state.facets = chosen; changed("show", state.shown); };
+    const chooser = facets === rules.facets && !state.facets ? null : inputChooser(rules.facets, facets, choose);
     if (found?.answer === "map") wordsOfMap(found, chooser);
-    else if (found?.answer === "none" && found.argument) wordsOfNone(found, chooser);
-    else {
+    else if (found?.argument) wordsOfNone(found, chooser);
+    else if (found) { wordsOfLong(found); legend([], "", chooser); } else {
       if (key === "open") wordsOfOpen(); else wordsOfNothing(rounds);
       legend([], "", chooser);
     }

@@ -36,7 +36,8 @@ function triangle(k) {
   const far = ([x, y]) => [CENTRE[0] + 1.2 * (x - CENTRE[0]), CENTRE[1] + 1.2 * (y - CENTRE[1])];
   const path = corners => "M" + corners.map(it => it.map(short).join(" ")).join("L") + "z";
   const face = element("path", { class: "face" + (isOn ? " on" : ""), "fill-rule": "evenodd", d: (k === 7 ? path(places.map(far)) : "") + path(places) });
-  const parts = partsOf(bits), [x, y] = k === 7 ? [CENTRE[0], CENTRE[1] + OUTER / 2 + 14] : [0, 1].map(axis => places.reduce((sum, it, p) => sum + parts[p] * it[axis], 0));
+  const parts = partsOf(bits), middle = [0, 1].map(axis => places.reduce((sum, it, p) => sum + parts[p] * it[axis], 0));
+  const [x, y] = k === 7 ? [CENTRE[0], CENTRE[1] + OUTER / 2 + 14] : middle;
   return [toggle(face, "t" + k, isOn, `all three decide ${bits.join(", ")}`, () => { masks.t ^= 1 << k; }),
     element("text", { class: isOn ? "on" : "", x: short(x), y: short(y + 5) }, bits.join(""))];
 }

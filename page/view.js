@@ -9,10 +9,13 @@ import { Zoom } from "./zoom.js";
 const MOST_POINTS = 60000;
 /**
  * What is shown: the drawing, the complex in it if it is one, and what a click does. `tells` if the value of a point is told behind its words.
- * @type {{drawing: Drawing | null, made: import("./subdivision.js").Complex | null, zoom: Zoom | null, hint: string, tells: boolean, spotWords: (point: number) => string,
- *   cellWords: (cell: number) => string, valueName: (value: number) => string, onSpot: ((point: number) => void) | null, onCell: ((cell: number) => void) | null}}
+ * @type {{drawing: Drawing | null, made: import("./subdivision.js").Complex | null, zoom: Zoom | null, hint: string, tells: boolean,
+ *   spotWords: (point: number) => string, cellWords: (cell: number) => string, valueName: (value: number) => string,
+ *   onSpot: ((point: number) => void) | null, onCell: ((cell: number) => void) | null}}
  */
-export const view = { drawing: null, made: null, zoom: null, hint: "", tells: true, spotWords: () => "", cellWords: () => "", valueName, onSpot: null, onCell: null };
+export const view = {
+  drawing: null, made: null, zoom: null, hint: "", tells: true, spotWords: () => "", cellWords: () => "", valueName, onSpot: null, onCell: null,
+};
 /** The points in words, by rounds, as the program tells them. */
 const points = new Map();
 
@@ -38,7 +41,8 @@ export function titles() {
 }
 function decided(point) {
   const look = view.tells ? view.drawing.look.spot?.(point) ?? {} : {};
-  return look.value !== undefined ? ` decides ${view.valueName(look.value)}` : look.text === "×" ? ": no value is left" : look.text ? `: ${look.text} is left` : "";
+  if (look.value !== undefined) return ` decides ${view.valueName(look.value)}`;
+  return look.text === "×" ? ": no value is left" : look.text ? `: ${look.text} is left` : "";
 }
 
 /** The line under the picture: what a point or an execution is. @param {{point?: number, cell?: number} | null} what */
@@ -59,7 +63,8 @@ export function readComplex(made, rounds) {
   view.made = made;
   view.spotWords = point => { const told = points.get(rounds)?.[point]; return told === undefined ? `v${point}` : `v${point} ${called(told)}`; };
   view.cellWords = number => {
-    const it = made.executions[number], ends = it.ends.map(at => made.points[at]), look = view.drawing.look.spot ?? (() => ({})), values = ends.map(at => look(at).value);
+    const ends = made.executions[number].ends.map(at => made.points[at]), look = view.drawing.look.spot ?? (() => ({}));
+    const values = ends.map(at => look(at).value);
     const told = values.every(v => v !== undefined) ? `, which decide (${values.map(view.valueName).join(", ")})` : "";
     return `execution ${number}: ${made.executionText(number, inputName)} ends at (${ends.map(v => "v" + v).join(", ")})${told}`;
   };

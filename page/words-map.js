@@ -17,11 +17,12 @@ export function wordsOfMap(found, chooser) {
   };
   paint(whole);
   view.hint = "Point at a shape to read what its process knows, or at an execution to read who sees whom.";
-  const lines = found.words.trim().split("\n"), listed = lines.slice(0, MOST_LINES).map((line, point) => entry(line, point, whole));
+  const lines = found.words.trim().split("\n").filter(Boolean), listed = lines.slice(0, MOST_LINES).map((line, point) => entry(line, point, whole));
   const ruled = make("div", { id: "rules", "aria-live": "polite" }, make("p", { class: "soft" }, "looking for rules …"));
   find("words").className = "list";
   find("words").replaceChildren(make("h3", {}, `A decision map ${inRounds(found.rounds)}`),
-    make("p", { class: "soft" }, `${plural(values.length, "point")}. Executions in which all decide one value have its colour. Solved in ${found.solved} ms. The checker says: ${found.verdict}.`),
+    make("p", { class: "soft" }, `${plural(values.length, "point")}. Executions in which all decide one value have its colour. Solved in ${found.solved} ms. `
+      + `The checker says: ${found.verdict}.`),
     make("h3", {}, "As rules"), ruled, make("h3", {}, "Point by point"),
     make("ul", { class: "scroll", "aria-label": "Points and their decisions" }, listed,
       lines.length > MOST_LINES ? make("li", {}, make("b", {}, `and ${(lines.length - MOST_LINES).toLocaleString("en")} more in the certificate`)) : null));
@@ -50,9 +51,11 @@ function rulesFor(found, box) {
   worker.onerror = event => { event.preventDefault(); close(); box.replaceChildren(); };
   worker.onmessage = ({ data: { rules } }) => {
     close();
-    if (!rules) { box.replaceChildren(make("p", { class: "soft" }, `More than 40 rules would be needed for ${plural(found.values.length, "point")}.`)); return; }
-    box.replaceChildren(make("p", { class: "soft" }, "The first that fits decides. They were compared with the map at each point; nothing of them is proved."),
-      make("ol", { class: "rules" }, rules.map(it => make("li", {}, `${it.words}: `, make("b", {}, it.outcome), make("span", { class: "soft" }, ` ${plural(it.points, "point")}`)))));
+    const say = text => make("p", { class: "soft" }, text);
+    if (!rules) { box.replaceChildren(say(`More than 40 rules would be needed for ${plural(found.values.length, "point")}.`)); return; }
+    const rule = it => make("li", {}, `${it.words}: `, make("b", {}, it.outcome), make("span", { class: "soft" }, ` ${plural(it.points, "point")}`));
+    box.replaceChildren(say("The first that fits decides. They were compared with the map at each point; nothing of them is proved."),
+      make("ol", { class: "rules" }, rules.map(rule)));
   };
   worker.postMessage({ text: state.task.text, rounds: found.rounds, values: found.values, names: state.task.names });
 }

@@ -40,7 +40,8 @@ export function wordsOfNone(found, chooser) {
     paint({
       cell: number => step.execution === number ? { marks: ["lit"], label: String(step.number) }
         : from.has(number) ? { marks: ["cited"], label: numbersText(cited.filter(it => it.execution === number).map(it => it.number)) } : {},
-      spot: point => ({ ...left(known, point), marks: [step.points.includes(point) ? "near" : about.has(point) ? "from" : "", used.has(point) ? "" : "dim"].filter(Boolean) }),
+      spot: point => ({ ...left(known, point),
+        marks: [step.points.includes(point) ? "near" : about.has(point) ? "from" : "", used.has(point) ? "" : "dim"].filter(Boolean) }),
     });
   };
   const current = () => byNumber.get(chosen) ?? null;
@@ -74,7 +75,8 @@ export function wordsOfNone(found, chooser) {
   };
   find("words").className = "list";
   find("words").replaceChildren(make("h3", {}, `Why there is none ${inRounds(found.rounds)}`),
-    make("p", { class: "soft" }, argument.total ? called(argument.total) : "", argument.items.length > MOST_ITEMS ? ` The first ${MOST_ITEMS.toLocaleString("en")} lines:` : ""), list);
+    make("p", { class: "soft" }, argument.total ? called(argument.total) : "",
+      argument.items.length > MOST_ITEMS ? ` The first ${MOST_ITEMS.toLocaleString("en")} lines:` : ""), list);
   const values = [...new Set([...forced.values()].filter(it => /^\d+$/.test(it)).map(Number))].sort((a, b) => a - b);
   legend(values.filter(it => state.task.rules.values.includes(it)), values.length === 1 ? "forced value" : "forced values", chooser);
 }
