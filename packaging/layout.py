@@ -14,6 +14,8 @@ ROOT = pathlib.Path(__file__).resolve().parent.parent
 BUILT, RELEASED, DIST = ROOT / "bin", ROOT / "release", ROOT / "dist"
 PROVENANCE = "PROVENANCE"
 PROGRAMS = ["wfcheck", "wfverify"]
+# the program for a browser, and the page that has it
+MODULE, PAGE = "wfcheck.wasm", "wfcheck.html"
 # each command that is Python, with the function of wfcheck.doors that it calls
 DOORS = {f"wfcheck-{door}": door for door in ("ask", "draw", "lint", "names", "rules", "task")}
 COMMANDS = [*PROGRAMS, *DOORS]
