@@ -22,6 +22,8 @@ long lseek(int file, long by, int from);
 long rattle_arg(u64 index, u8 *to, u64 room);
 long rattle_env(const char *name, u8 *to, u64 room);
 long rattle_env_at(u64 index, u8 *to, u64 room);
+int __xpg_strerror_r(int number, u8 *to, u64 room);
+void __x86_get_cpuid_feature_leaf(void);
 _Noreturn void _exit(int status);
 _Noreturn void abort(void);
 long __sysv_signal(int signal, long handler);
@@ -155,6 +157,8 @@ TEST(test_words) {
   IS(rattle_arg(0, room, 8) == 7 && room[0] == 'w' && rattle_arg(1, room, 8) == 4 && room[3] == 'd');
   IS(rattle_arg(2, room, 8) == -1 && rattle_arg(0, room, 3) == -2);
   IS(rattle_env("HOME", room, 8) == -1 && rattle_env_at(0, room, 8) == -1);
+  room[0] = 'x';
+  IS(__xpg_strerror_r(2, room, 0) == 0 && room[0] == 'x' && __xpg_strerror_r(2, room, 8) == 0 && room[0] == 0);
   return 0;
 }
 TEST(test_threads) {
@@ -181,5 +185,6 @@ TEST(test_wide) {
   return 0;
 }
 /* These end with the status 7, and with 134. */
+TEST(test_cpuid) { __x86_get_cpuid_feature_leaf(); return 0; }
 TEST(test_exit) { _exit(7); }
 TEST(test_abort) { abort(); }

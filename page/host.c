@@ -133,17 +133,17 @@ int open(const char *path, int flags, ...) { return (int)or_error(host_open(path
 int close(int file) { return (int)or_error(host_close(file)); }
 long lseek(int file, long by, int from) { return or_error(-ESPIPE); }
 long rattle_arg(u64 index, u8 *to, u64 room) { return host_arg(index, to, room); }
-long rattle_env(const char *name, u8 *to, u64 room) { return -1; }
-long rattle_env_at(u64 index, u8 *to, u64 room) { return -1; }
+long rattle_env(const char *name, u8 *to, u64 room) { return -1; } long rattle_env_at(u64 index, u8 *to, u64 room) { return -1; }
+int __xpg_strerror_r(int number, u8 *to, u64 room) { if (room) *to = 0; return 0; }
 void _exit(int status) { host_exit(status); } void abort(void) { host_exit(ABORTED); }
-
 long __sysv_signal(int signal, long handler) { return 0; }
+/* What the other processor can do is asked by code that this one never runs. */
+void __x86_get_cpuid_feature_leaf(void) { abort(); }
 
 /* One processor, and no thread but the one that runs. */
 long sysconf(int name) { return name == 30 ? PAGE : 1; }
 int sched_getaffinity(int process, u64 many, u8 *mask) { for (u64 i = 0; i < many; i++) mask[i] = i == 0; return 0; }
-int sched_yield(void) { return 0; }
-int pthread_create(void *thread, void *how, void *run, void *given) { return EAGAIN; }
+int sched_yield(void) { return 0; } int pthread_create(void *thread, void *how, void *run, void *given) { return EAGAIN; }
 int pthread_join(u64 thread, void *result) { return EINVAL; } int pthread_detach(u64 thread) { return EINVAL; }
 u64 pthread_self(void) { return 1; }
 int pthread_attr_init(void *how) { return 0; } int pthread_attr_destroy(void *how) { return 0; }
