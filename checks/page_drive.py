@@ -1,10 +1,12 @@
 """What people do with the page, in a browser: each part is given a `Visit`, and yields names of what was tried with what is wrong, or nothing."""
+import base64
 import os
 import pathlib
 import subprocess
 import tempfile
 import time
 import xml.etree.ElementTree
+import zlib
 
 import browser
 import common
@@ -254,6 +256,11 @@ def links(visit):
     link = visit.window.script("return location.hash")
     visit.open(link[1:])
     yield "a file in a link", unlike(visit.text("headline"), "pasted: from 1")
+    bomb = zlib.compressobj(9, zlib.DEFLATED, -15)
+    packed = base64.urlsafe_b64encode(bomb.compress(b" " * 40_000_000) + bomb.flush()).decode().rstrip("=")
+    visit.window.go(visit.url + "#file=" + packed)
+    visit.window.until("document.getElementById('error-answer').textContent.includes('longer than a task may be')", seconds=20)
+    yield "a link that unpacks to 40 million bytes", unlike(visit.errors(), "This link can't be read: it is longer than a task may be")
     for name, fragment in [("no base64", "own=%%%"), ("no text", "file=AAAA&name=x"), ("no task", "known=nothing"), ("no code", "small=b-1"),
                            ("no object", "own=MzIyMjQGAA"), ("a fragment of markup", "known=" + MARKUP)]:
         visit.window.go(visit.url + "#" + fragment)

@@ -90,7 +90,7 @@ export class Drawing {
     it.value.style.display = fill ? "" : "none";
     it.value.style.fill = fill ?? "";
     const text = look.text ?? (look.value !== undefined ? String(look.value) : "");
-    it.text.textContent = this.isReadable ? text : "";
+    it.text.textContent = this.isReadable || text === CROSS ? text : "";
     const size = this.scene.radius * 1.1 * (text === CROSS ? 1.7 : [1, 1.15, 1, 0.84][text.length] ?? 0.62);
     it.text.setAttribute("font-size", short(size));
     it.text.setAttribute("y", short(it.at[1] + size * 0.36));

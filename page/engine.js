@@ -28,7 +28,14 @@ async function started() {
       const hear = engine.hears.get(it.id);
       if (hear?.(it)) engine.hears.delete(it.id);
     };
-    worker.onerror = event => { event.preventDefault(); failed(new Error(event.message)); };
+    worker.onerror = event => {
+      event.preventDefault();
+      failed(new Error(event.message));
+      // a worker that ended in the middle of a question answers nothing more
+      const hears = [...engine.hears.values()];
+      if (engine.worker === worker) restart();
+      for (const hear of hears) hear({ kind: "failed", text: `The program stopped: ${event.message || "the browser gave it no more memory"}.` });
+    };
     worker.postMessage({ kind: "module", module });
   });
 }

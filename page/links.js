@@ -60,7 +60,9 @@ export async function fromFragment() {
       return true;
     }
   } catch (problem) {
+    openTab("known");
     tell("error-answer", `This link can't be read: ${problem.message}`);
+    return true;
   }
   return false;
 }

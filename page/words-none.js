@@ -77,6 +77,7 @@ export function wordsOfNone(found, chooser) {
   find("words").replaceChildren(make("h3", {}, `Why there is none ${inRounds(found.rounds)}`),
     make("p", { class: "soft" }, argument.total ? called(argument.total) : "",
       argument.items.length > MOST_ITEMS ? ` The first ${MOST_ITEMS.toLocaleString("en")} lines:` : ""), list);
-  const values = [...new Set([...forced.values()].filter(it => /^\d+$/.test(it)).map(Number))].sort((a, b) => a - b);
+  const told = [...forced].filter(([point, it]) => !argument.emptied.has(point) && /^\d+$/.test(it)).map(([, it]) => Number(it));
+  const values = [...new Set(told)].sort((a, b) => a - b);
   legend(values.filter(it => state.task.rules.values.includes(it)), values.length === 1 ? "forced value" : "forced values", chooser);
 }
