@@ -183,6 +183,14 @@ def trees(window):
         yield f"the count of {file.name} is the same for all values", unlike({*counts[0]}, {counts[1]}) or unlike(counts[2], 0)
 
 
+def new_names(window):
+    """What the values are called that splits and covers make."""
+    for name, wanted in [("hourglass", [[3, "1′"]]), ("loop-torus-punctured", [[it + 7, f"{it} on sheet 1"] for it in range(7)])]:
+        text = (common.ANSWERS / f"{name}.obstruction").read_text()
+        found = window.script("return [...handsOf(rulesOf(arguments[0]), nodesOf(arguments[1])).pop().names]", text_of(name), text)
+        yield f"names of new values of {name}", unlike(found, wanted)
+
+
 def rules(window):
     """Maps as rules: as many as Python finds, with the same words."""
     for name, rounds in RULED:
@@ -228,5 +236,5 @@ def named(window):
 def tests(window, folder):
     """All of them."""
     window.go(f"file://{page(folder)}")
-    for part in (tasks, complexes, places, trees, rules, refusals, named):
+    for part in (tasks, complexes, places, trees, new_names, rules, refusals, named):
         yield from part(window)
