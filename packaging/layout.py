@@ -152,6 +152,8 @@ def files(binaries, provenance):
         found[place] = File((ROOT / "docs/completions" / name).read_bytes())
     for path in [file for it in SHARED for file in below(ROOT / it) if file.exists()]:
         found[f"{SHARE}/{path.relative_to(ROOT)}"] = File(path.read_bytes())
+    if (RELEASED / PAGE).is_file():
+        found[f"{SHARE}/{PAGE}"] = File(released(PAGE))
     if provenance:
         found[f"{SHARE}/{PROVENANCE}"] = File(provenance.encode())
     return dict(sorted(found.items()))
