@@ -1,7 +1,7 @@
-# `demo`, `install`, `dist` and `deb` need Python 3 or a shell alone. The others need the toolchain's command `rt` on the path as well, and
+# `demo`, `install`, `page`, `dist` and `deb` need Python 3 or a shell alone. The others need the toolchain's command `rt` on the path as well, and
 # `bench` g++ and rustc. Where there is a C compiler, `test` also has calls of the operating system fail in turn.
 
-.PHONY: demo build verifier quick test definitions bench pictures install uninstall dist deb release
+.PHONY: demo build verifier wasm page quick test definitions bench pictures install uninstall dist deb release
 
 # where `make install` installs, and a folder that stands before it, as for a package
 PREFIX = /usr/local
@@ -40,6 +40,14 @@ build:
 # The checker alone, at bin/wfverify: what it stands on is proved first, about half of what bin/wfcheck stands on.
 verifier:
 	@checks/build wfverify
+
+# The proved program as a WebAssembly module, at bin/wfcheck.wasm, after `make build`. Some minutes.
+wasm:
+	@packaging/wasm
+
+# The page that anybody opens, at dist/wfcheck.html: the module of release/ and the sources of page/ in one file. MODULE=FILE takes another.
+page:
+	@python3 -B packaging/page $(if $(MODULE),--module "$(MODULE)")
 
 # What changed since this last passed is proved over the work that is kept, and the tests that name it are run: no verdict.
 # The first time it proves every crate.

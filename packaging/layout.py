@@ -14,6 +14,8 @@ ROOT = pathlib.Path(__file__).resolve().parent.parent
 BUILT, RELEASED, DIST = ROOT / "bin", ROOT / "release", ROOT / "dist"
 PROVENANCE = "PROVENANCE"
 PROGRAMS = ["wfcheck", "wfverify"]
+# the program for a browser, and the page that has it
+MODULE, PAGE = "wfcheck.wasm", "wfcheck.html"
 # each command that is Python, with the function of wfcheck.doors that it calls
 DOORS = {f"wfcheck-{door}": door for door in ("ask", "draw", "lint", "names", "rules", "task")}
 COMMANDS = [*PROGRAMS, *DOORS]
@@ -150,6 +152,8 @@ def files(binaries, provenance):
         found[place] = File((ROOT / "docs/completions" / name).read_bytes())
     for path in [file for it in SHARED for file in below(ROOT / it) if file.exists()]:
         found[f"{SHARE}/{path.relative_to(ROOT)}"] = File(path.read_bytes())
+    if (RELEASED / PAGE).is_file():
+        found[f"{SHARE}/{PAGE}"] = File(released(PAGE))
     if provenance:
         found[f"{SHARE}/{PROVENANCE}"] = File(provenance.encode())
     return dict(sorted(found.items()))

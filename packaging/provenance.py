@@ -20,18 +20,20 @@ import crates  # noqa: E402
 NEEDS = re.compile(rb"GLIBC_(\d+)\.(\d+)")
 FIELD = re.compile(r"^(\w[\w ]*?)  +(\S.*)$", re.M)
 STRIP = ["strip", "--strip-all"]
-HEAD = """Where wfcheck and wfverify come from. `sha256sum --check PROVENANCE`, beside them, compares both with the last two lines.
+HEAD = """Where {names} come from. `sha256sum --check PROVENANCE`, beside them, compares them with the last lines.
 
 """
 AGAIN = """
-These commands build both again from the same sources:
+These commands build them again from the same sources:
 
     git checkout {commit}
     make build
     make verifier
     {strip} bin/wfcheck bin/wfverify
-
+{more}
 """
+# how the module and the page are made
+MORE = f"    make wasm\n    make page MODULE=bin/{layout.MODULE}\n"
 
 
 def git(*words):
@@ -71,20 +73,35 @@ def gate(sources):
     return "no whole gate has passed over these sources"
 
 
-def told(binaries, commit, sources):
-    """The text of PROVENANCE for programs that were built from the sources of a commit."""
+def told(binaries, commit, sources, others):
+    """The text of PROVENANCE for programs that were built from the sources of a commit, and for the other files that stand beside them."""
     fields = {
         "version": layout.version(), "commit": commit, "sources": sources, "kit": layout.ran(["rt", "version"]).strip(),
         "gate": gate(sources), "stripped by": f"{' '.join(STRIP)}, {layout.ran(['strip', '--version']).split(chr(10))[0]}",
         "C library": needs(binaries),
     }
     lines = "".join(f"{name:<13}{said}\n" for name, said in fields.items())
-    shas = "".join(f"{layout.digest(data)}  {name}\n" for name, data in binaries.items())
-    return f"{HEAD}{lines}{AGAIN.format(commit=commit, strip=' '.join(STRIP))}{shas}"
+    # the programs come last: where they alone are handed out, their lines are the last two
+    shas = "".join(f"{layout.digest(data)}  {name}\n" for name, data in [*others.items(), *binaries.items()])
+    names = [*binaries, *others]
+    head = HEAD.format(names=f"{', '.join(names[:-1])} and {names[-1]}")
+    return f"{head}{lines}{AGAIN.format(commit=commit, strip=' '.join(STRIP), more=MORE if others else '')}{shas}"
 
 
-def built(named="HEAD"):
-    """The stripped programs of bin/, with their PROVENANCE. Raises Mistake if they are not those of the sources of a commit."""
+def page_files():
+    """The module of bin/, and the page that is made of it. Raises Mistake if the module was not built from these sources."""
+    module, noted = layout.BUILT / layout.MODULE, layout.BUILT / f"{layout.MODULE}.sources"
+    if not module.is_file() or not noted.is_file() or noted.read_text().strip() != crates.sources():
+        raise layout.Mistake(f"bin/{layout.MODULE} was not built from these sources: `make wasm` builds it")
+    with tempfile.TemporaryDirectory() as folder:
+        page = pathlib.Path(folder) / layout.PAGE
+        layout.ran([sys.executable, "-B", layout.ROOT / "packaging/page", "--module", module, "--to", page])
+        return {layout.MODULE: module.read_bytes(), layout.PAGE: page.read_bytes()}
+
+
+def built(named="HEAD", others=None):
+    """The stripped programs of bin/, with a PROVENANCE that also names other files. Raises Mistake if the programs are not those of the
+    sources of a commit."""
     commit, sources = git("rev-parse", "--verify", f"{named}^{{commit}}"), crates.sources()
     if not commit:
         raise layout.Mistake(f"PROVENANCE names a commit, and {named} is none of this repository")
@@ -99,7 +116,7 @@ def built(named="HEAD"):
         if not noted.is_file() or noted.read_text().strip() != sources:
             raise layout.Mistake(f"bin/{name} was not built from these sources: `make build verifier` builds both programs")
     binaries = {name: stripped(layout.judged(layout.BUILT / name)) for name in layout.PROGRAMS}
-    return binaries, told(binaries, commit, sources)
+    return binaries, told(binaries, commit, sources, others or {})
 
 
 def released(say):
