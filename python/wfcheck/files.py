@@ -7,6 +7,8 @@ import stat
 from typing import BinaryIO, Union
 
 Path = Union[str, "os.PathLike[str]"]
+# how many bytes of a task file are read
+LONGEST = 16_777_216
 
 
 def opened(path: Path) -> BinaryIO:

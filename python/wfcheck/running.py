@@ -1,6 +1,5 @@
 """The program `wfcheck`: where it is, and one run of it."""
 import functools
-import hashlib
 import os
 import pathlib
 import re
@@ -15,12 +14,12 @@ VARIABLE, NAME = "WFCHECK", "wfcheck"
 PLACES = [TOP / "bin" / NAME, *([TOP.parent.parent / "bin" / NAME] if TOP.parts[-2:] == ("share", NAME) else [])]
 RELEASED = TOP / "release" / NAME
 # a line of PROVENANCE that names a program's bytes
-SHA = re.compile(r"^([0-9a-f]{64}) [ *](\S+)$", re.M)
+SHA = r"(?m)^([0-9a-f]{64}) [ *](\S+)$"
 # in seconds: how long a program may take to say which one it is
 SECONDS = 10
 TO_DO = f"set {VARIABLE} to the file of the program, put {NAME} on the path, or get a clone, where release/ has it and `make build` makes it"
 # a refusal with the notes below it
-REFUSAL = re.compile(r"^wfcheck: (\d+) (.*)((?:\n  note: .*)*)", re.M)
+REFUSAL = r"(?m)^wfcheck: (\d+) (.*)((?:\n  note: .*)*)"
 # the statuses of an answer: a map or an acceptance, and none
 ANSWERS = (0, 1)
 Word = Union[str, int, pathlib.Path]
@@ -97,8 +96,9 @@ def judged(path: pathlib.Path, why: str) -> pathlib.Path:
 @functools.lru_cache(maxsize=None)
 def released(path: pathlib.Path) -> pathlib.Path:
     """The released program, told on standard error once, if it is the file whose SHA-256 stands in PROVENANCE."""
+    import hashlib
     try:
-        wanted = SHA.findall(path.with_name("PROVENANCE").read_text(encoding="utf-8"))
+        wanted = re.findall(SHA, path.with_name("PROVENANCE").read_text(encoding="utf-8"))
         found = hashlib.sha256(path.read_bytes()).hexdigest()
     except OSError as error:
         raise NoProgram(f"release/{NAME} can't be taken ({error}): {TO_DO}") from error
@@ -136,7 +136,7 @@ def run(words: Sequence[Word], given: str, seconds: Optional[float] = None) -> R
 
 def refusal(said: str) -> Optional[Refused]:
     """The refusal that a text tells of, or None."""
-    found = REFUSAL.search(said)
+    found = re.search(REFUSAL, said)
     if not found:
         return None
     notes = found[3].replace(f"`{NAME}-lint FILE` (in the repository tools/lint.py)", f"`{linter()} FILE`").split("\n  note: ")[1:]

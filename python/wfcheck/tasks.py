@@ -14,6 +14,7 @@ import pathlib
 from typing import AbstractSet, Any, Callable, Dict, Iterable, Iterator, List, Mapping, NamedTuple, Optional, Sequence, Set, Tuple, Union
 
 from . import files
+from .files import LONGEST
 from .names import ENDING, Names, names_of, read_names
 from .running import Error, NoFile
 
@@ -24,8 +25,8 @@ Legal = Callable[[Dict[int, int], Dict[int, int]], Any]
 # a value for each process, or a dictionary where some take no part
 Input = Union[Sequence[int], Mapping[int, int]]
 MOST_PROCESSES, LARGEST, LARGEST_PLAIN = 4, 255, 63
-# how many bytes of a file are read, how many tuples it may have, and how many of what else
-LONGEST, MOST_TUPLES = 16_777_216, 65536
+# how many tuples a file may have, and how many of what else
+MOST_TUPLES = 65536
 # how much of a name is shown
 SHOWN = 60
 MOST = {"input vertices": 64, "input simplices, with their faces": 4096, "listed outputs": 65536, "value lists": MOST_TUPLES}

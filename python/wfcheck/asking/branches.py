@@ -18,8 +18,8 @@ from .notes import Note, Notes, Room, digest, placed
 from .pool import shown
 from .questions import SEARCH_ALONE, WITHOUT_LINES, Answer, Attempt, Question, answered
 from .runs import Clock, Late, Refused, Scope, Undecided, say
+from .summary import STATUS
 
-STATUS = {"map": 0, "none": 1, None: 3}
 # what share of the points is open in a branch that is nearly as large as the whole
 LARGE, OPEN = 0.9, re.compile(r"^branch \d+ (\d+) \d+$", re.M)
 # among so many of the lowest branches runs begin at different places
@@ -305,7 +305,7 @@ def write_array(words: argparse.Namespace, solver: str, question: Listed) -> Non
     if question.is_doubtful():
         print(question.doubt(), file=sys.stderr)
     script = arrays.array(words, solver, question.branches)
-    if given.digest_of(words.given.file) != words.given.digest:
+    if not given.has(words.given.file, words.given.text):
         raise Undecided(f"{words.given.file} has changed during this run, and the jobs would read it anew")
     print(script)
 

@@ -7,7 +7,7 @@ import pathlib
 import re
 from typing import List
 
-from ..answers import nodes_in_words
+from ..nodes import nodes_in_words
 from . import table
 from .notes import Room, keep
 from .questions import answered
@@ -18,7 +18,7 @@ FIRST_BLOCK, GAVE_UP = "wfcheck: 50 FirstBlock", "wfcheck: 60 GaveUp"
 # the options with which an obstruction is looked for in turn
 OPTIONS: List[List[str]] = [[], ["--covers", "1"]]
 NONE_FOUND = 1
-NODE = re.compile(r"^(case|split|cover|balance) (\d+)", re.M)
+NODE = r"(?m)^(case|split|cover|balance) (\d+)"
 
 
 def is_never(words: argparse.Namespace) -> bool:
@@ -97,4 +97,4 @@ def is_accepted(words: argparse.Namespace, file: pathlib.Path, scope: Scope, clo
 
 def in_words(file: pathlib.Path) -> str:
     """How many nodes of each kind an obstruction has, and the moduli of its balances."""
-    return nodes_in_words((name, int(number)) for name, number in NODE.findall(file.read_text(errors="replace")))
+    return nodes_in_words((name, int(number)) for name, number in re.findall(NODE, file.read_text(errors="replace")))

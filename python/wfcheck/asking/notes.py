@@ -8,8 +8,6 @@ from __future__ import annotations
 
 import contextlib
 import fcntl
-import hashlib
-import itertools
 import os
 import pathlib
 import re
@@ -30,15 +28,15 @@ TRIES, PAUSE = 20, 0.05
 # what tells one question from another, in words
 NAMES = {"rounds": "number of rounds", "branches": "list of branches", "program": "version of the program"}
 ROOMS, LOCK = ".ask-", "lock"
-LINE = re.compile(
-    r"(?P<word>map|none), by (?P<who>.*) in (?P<taken>[\d.]+) s, "
-    r"(?P<size>\d+) bytes with SHA-256 (?P<digest>[0-9a-f]{64}) in (?P<name>[^/\n]+)\n")
+LINE = (r"(?P<word>map|none), by (?P<who>.*) in (?P<taken>[\d.]+) s, "
+        r"(?P<size>\d+) bytes with SHA-256 (?P<digest>[0-9a-f]{64}) in (?P<name>[^/\n]+)\n")
 # so that the names of files are read as they are written
 CODE, ERRORS = "utf-8", "surrogateescape"
 
 
 def digest(file: pathlib.Path) -> str:
     """The SHA-256 of a file."""
+    import hashlib
     found = hashlib.sha256()
     with files.opened(file) as text:
         while piece := text.read(1 << 20):
@@ -180,7 +178,7 @@ class Notes:
     def line_of(self, branch: int) -> Optional[Note]:
         """What is noted of a branch, whether it is to be trusted or not."""
         with files.opened(self.folder / f"branch-{branch}") as file:
-            found = LINE.fullmatch(file.read(1 << 14).decode(CODE, ERRORS))
+            found = re.fullmatch(LINE, file.read(1 << 14).decode(CODE, ERRORS))
         if not found:
             return None
         word, who, taken, size, sha, name = found.groups()

@@ -1,11 +1,9 @@
 """A question for `ask`, and one attempt to answer it: by the search or by a SAT solver, and then by the check of what that wrote."""
 from __future__ import annotations
 
-import concurrent.futures
 import os
 import pathlib
 import re
-import shlex
 import signal
 import subprocess
 from typing import Any, Callable, Dict, List, NamedTuple, Optional, Sequence, Tuple, TypeVar
@@ -21,7 +19,9 @@ SEARCH, SEARCH_ALONE = "the search", "search"
 FEWER_ROUNDS = "the search after fewer rounds"
 # the share of a question's time in which a map after fewer rounds is looked for
 SHARE = 0.1
-CLAUSES = re.compile(rb"^p cnf \d+ (\d+)$", re.M)
+# in seconds: how long the program is asked alone
+AT_ONCE = 0.05
+CLAUSES = rb"(?m)^p cnf \d+ (\d+)$"
 HEAD = 1 << 14
 # so many bytes from the end of what a solver said may have its last line
 TAIL = 200
@@ -29,8 +29,7 @@ TAIL = 200
 TOO_LONG = 1, -signal.SIGXFSZ
 # how many bytes of a part `verify` reads; and who gives an answer that has no lines
 LONGEST, WITHOUT_LINES = 16_777_216, "the search's answer, without lines"
-EMPTY = re.compile(rb"\n(?=\n)")
-SAYS = re.compile(rb"(?:s )?(UN)?SAT(?:ISFIABLE)?\s*")
+EMPTY, SAYS = rb"\n(?=\n)", rb"(?:s )?(UN)?SAT(?:ISFIABLE)?\s*"
 PLACES = {"formula": "cnf", "proof": "drat", "hints": "lrat", "output": "out"}
 # the two kinds of clausal proofs, by what their files end in, and the words by which `wfcheck proof` is told of the second
 PROOFS: Dict[str, List[str]] = {".drat": [], ".lrat": ["--lrat"]}
@@ -61,7 +60,7 @@ class Question:
         self.branch = [] if branch is None else ["--branch", branch]
         self.name = "-".join(map(str, [task.stem, rounds, *self.branch[1:]]))
         where = f" in branch {branch} of {count}" if self.branch else ""
-        self.accepted = re.compile(rf"accepted (map|least|none){where} at {rounds} rounds?\s*")
+        self.accepted = rf"accepted (map|least|none){where} at {rounds} rounds?\s*"
 
     def who(self, name: str) -> str:
         """Who says something, with the branch that it is about."""
@@ -77,6 +76,8 @@ class Attempt:
 
     def __init__(self, question: Question, folder: pathlib.Path, scope: Scope, clock: Clock) -> None:
         self.question, self.folder, self.scope, self.clock = question, folder, scope, clock
+        # whether the search said that there is no map
+        self.is_none = False
 
     def file(self, kind: str) -> pathlib.Path:
         """A file of this attempt."""
@@ -98,7 +99,7 @@ class Attempt:
         except Late:
             say(f"    wfcheck {command}: {question.who('no end')} within the {self.clock.seconds:g} s that the question has")
             raise
-        found = question.accepted.fullmatch(ended.said) if ended.status == 0 else None
+        found = re.fullmatch(question.accepted, ended.said) if ended.status == 0 else None
         say(f"    wfcheck {command}: {ended.said.strip() if found else question.who(ended.why())} ({ended.taken:.2f} s)")
         return ({"least": "map"}.get(found[1], found[1]) if found else None), ended
 
@@ -121,6 +122,39 @@ class Attempt:
         if ended.status == 2:
             raise Refused(ended.said)
         return ended
+
+    def at_once(self, wrote: pathlib.Path, *form: str) -> Optional[runs.Ended]:
+        """How the search ended that had a moment to answer; None if it had no end by then."""
+        whole, self.clock = self.clock, Clock(min(AT_ONCE, max(self.clock.left(), 0)))
+        try:
+            return self.solve(wrote, *form)
+        except Late:
+            return None
+        finally:
+            self.clock = whole
+
+    def map_at_once(self) -> Optional[Answer]:
+        """The map that the search finds in a moment, and that is accepted. It is also noted if the search says that there is none."""
+        report = self.file("report")
+        ended = self.at_once(report, "--verdict")
+        if ended and ended.status == 0:
+            self.tell(SEARCH, f"says map in {ended.taken:.2f} s")
+            if self.accepted(report) == "map":
+                return Answer("map", SEARCH, ended.taken, [report])
+        self.is_none = ended is not None and ended.status == 1
+        report.unlink()
+        return None
+
+    def none_at_once(self) -> Optional[Answer]:
+        """The refutation that the search writes in a moment, where it said that there is no map, and that is accepted."""
+        report = self.file("report")
+        ended = self.at_once(report) if self.is_none else None
+        if ended and ended.status == 1:
+            self.tell(SEARCH, f"says none in {ended.taken:.2f} s")
+            if self.accepted(report) == "none":
+                return Answer("none", SEARCH, ended.taken, [report])
+        report.unlink(missing_ok=True)
+        return None
 
     def by_search(self) -> Optional[Answer]:
         """The search's answer, where its report is accepted. The whole question is asked for the verdict first: the lines of a refutation may
@@ -192,7 +226,7 @@ class Attempt:
         def look() -> None:
             """Looks how many clauses the formula has, as far as it is written."""
             with open(formula, "rb") as text:
-                found = CLAUSES.search(text.read(HEAD))
+                found = re.search(CLAUSES, text.read(HEAD))
             if found and int(found[1]) > most:
                 raise NoFormula(f"the formula has {int(found[1]):,} clauses, more than {most:,} (--clauses)")
 
@@ -217,7 +251,7 @@ class Attempt:
         names = {name: str(self.file(kind)) for name, kind in PLACES.items()}
         begun = self.clock.taken()
         with open(self.file("said"), "xb") as said:
-            command = [word.format(**names) for word in shlex.split(words)]
+            command = [word.format(**names) for word in split(words)]
             status = self.scope.run(command, self.clock, stdin=subprocess.DEVNULL, stdout=said, stderr=said)
         if status < 0:
             self.tell(solver_name(words), f"has no answer: {runs.Ended(status, '', 0).why()}")
@@ -251,7 +285,7 @@ class Attempt:
         files = [it for it in (self.file("out"), self.file("said")) if it.is_file()]
         for file in files:
             for line in runs.pieces(file, self.clock):
-                if found := SAYS.fullmatch(line):
+                if found := re.fullmatch(SAYS, line):
                     return "none" if found[1] else "map", files[0]
         return None, None
 
@@ -277,7 +311,13 @@ class Attempt:
 
 def solver_name(words: str) -> str:
     """What a solver is called whose command these words are."""
-    return in_line(pathlib.PurePath(shlex.split(words)[0]).name)
+    return in_line(pathlib.PurePath(split(words)[0]).name)
+
+
+def split(words: str) -> List[str]:
+    """The words of a command, as a shell splits them."""
+    import shlex
+    return shlex.split(words)
 
 
 def lemmas(proof: pathlib.Path, clock: Clock) -> int:
@@ -287,7 +327,7 @@ def lemmas(proof: pathlib.Path, clock: Clock) -> int:
         while read := text.read(1 << 20):
             clock.go_on()
             piece, last = last + read, read[-1:]
-            others = piece.count(deletes) + piece.count(b"\nc") + (len(EMPTY.findall(piece)) if b"\n\n" in piece else 0)
+            others = piece.count(deletes) + piece.count(b"\nc") + (len(re.findall(EMPTY, piece)) if b"\n\n" in piece else 0)
             count += piece.count(b"\n", 0, -1) - others
     return count
 
@@ -305,6 +345,7 @@ def answered(name: str, ask: Callable[[], Optional[T]]) -> Optional[T]:
 
 def first(scope: Scope, asked: Dict[str, Call]) -> Optional[Answer]:
     """The first answer that is accepted; then the others are stopped. `asked` has a call for each name."""
+    import concurrent.futures
     with concurrent.futures.ThreadPoolExecutor(len(asked)) as pool:
         one: Callable[[str, Call], Optional[Answer]] = answered
         jobs = [pool.submit(one, name, ask) for name, ask in asked.items()]

@@ -5,10 +5,10 @@ and so it is where the program itself has ended and a child of it goes on."""
 from __future__ import annotations
 
 import contextlib
-import ctypes
 import os
 import pathlib
 import resource
+import select
 import signal
 import subprocess
 import sys
@@ -28,10 +28,10 @@ TOLD = 1 << 20
 # a program that one of these ended was most likely ended with all of this run, which then gets the signal within a second
 ENDING = (signal.SIGHUP, signal.SIGINT, signal.SIGTERM)
 SHELL, DIE_WITH_PARENT = 128, 1
-LONGEST_PAUSE = 0.01
+# in seconds: how long nobody looks whether the time is over, and whether a program has ended that doesn't tell it
+LONGEST_PAUSE, SHORT_PAUSE = 0.01, 0.002
 # in seconds: how long after a child this run may get a signal that both get
 GRACE = 0.5
-LIBC = ctypes.CDLL(None)
 CUT_OFF = threading.Event()
 # so that lines of several threads don't mix
 ONE_LINE = threading.Lock()
@@ -96,6 +96,10 @@ class Clock:
         """The seconds that are over."""
         return time.monotonic() - self.begun
 
+    def left(self) -> float:
+        """The seconds that are left."""
+        return self.seconds - self.taken()
+
     def go_on(self) -> None:
         """Raises Late once the time is over, and Stopped once the run was cut off."""
         not_cut_off()
@@ -149,15 +153,14 @@ class Child:
     def wait(self, clock: Clock, look: Look = None) -> int:
         """Waits for the end and returns the status, and calls `look` again and again until then. Raises Late or Stopped if that comes
         first. None of the group is left in any case."""
-        pause = 0.0005
         try:
-            while not self.has_ended():
-                clock.go_on()
-                self.scope.go_on()
-                if look:
-                    look()
-                time.sleep(pause)
-                pause = min(pause * 1.5, LONGEST_PAUSE)
+            with self.awaited() as pause:
+                while not self.has_ended():
+                    clock.go_on()
+                    self.scope.go_on()
+                    if look:
+                        look()
+                    pause()
         finally:
             os.killpg(self.process.pid, signal.SIGKILL)
             status = self.process.wait()
@@ -165,6 +168,21 @@ class Child:
             CUT_OFF.wait(1)
         self.scope.go_on()
         return status
+
+    @contextlib.contextmanager
+    def awaited(self) -> Iterator[Callable[[], Any]]:
+        """A call that pauses for a moment, or until the program ends if the system tells that."""
+        try:
+            end = os.pidfd_open(self.process.pid)
+        except (AttributeError, OSError):
+            yield lambda: time.sleep(SHORT_PAUSE)
+            return
+        try:
+            ends = select.poll()
+            ends.register(end, select.POLLIN)
+            yield lambda: ends.poll(LONGEST_PAUSE * 1000)
+        finally:
+            os.close(end)
 
     def has_ended(self) -> bool:
         """Whether the program has ended; it keeps its number until `wait` asks for its status, so that the group can be named by it."""
@@ -179,6 +197,8 @@ def not_waiting(path: str, flags: int) -> int:
 def limited(limits: Limits) -> Callable[[], None]:
     """Sets the limits in a process that is about to become another program, and has it end where this one is killed."""
     wanted = {resource.RLIMIT_AS: limits.memory, resource.RLIMIT_FSIZE: limits.file, resource.RLIMIT_CORE: 0}
+    import ctypes
+    prctl = ctypes.CDLL(None).prctl
     found = {kind: resource.getrlimit(kind)[1] for kind in wanted}
     least = {kind: most if found[kind] == resource.RLIM_INFINITY else min(most, found[kind]) for kind, most in wanted.items()}
 
@@ -186,7 +206,7 @@ def limited(limits: Limits) -> Callable[[], None]:
         """Sets the limits."""
         for kind, most in least.items():
             resource.setrlimit(kind, (most, most))
-        LIBC.prctl(DIE_WITH_PARENT, signal.SIGKILL)
+        prctl(DIE_WITH_PARENT, signal.SIGKILL)
     return limit
 
 

@@ -2,13 +2,11 @@
 from __future__ import annotations
 
 import argparse
-import difflib
 import functools
 import io
 import os
 import pathlib
 import re
-import shlex
 import shutil
 import signal
 import subprocess
@@ -16,31 +14,19 @@ import sys
 import tempfile
 from typing import Dict, List, Optional, Tuple
 
-from ..gallery import gallery
 from ..running import VARIABLE, NoProgram, linter, program
 from ..running import refusal as refusal_of
 from . import __doc__ as about
-from . import arrays, branches, cases, fewer, hints, never, questions, runs, table
+from . import never, questions, runs, table
 from .given import Given, in_line
 from .notes import Notes, Room, keep
-from .questions import FEWER_ROUNDS, PLACES, SEARCH, SEARCH_ALONE, Answer, Attempt, Question, first
+from .questions import FEWER_ROUNDS, PLACES, SEARCH, SEARCH_ALONE, Answer, Attempt, Question, first, split
 from .runs import Clock, Late, Limits, Refused, Scope, Stopped, Undecided, say
-from .summary import refused_in_words, summary
+from .summary import STATUS, refused_in_words, summary
 
-SOLVERS = {
-    "cadical": "cadical -q --no-binary {formula} {proof}",
-    "kissat": "kissat -q --no-binary --no-factor {formula} {proof}",
-    "cryptominisat5": "cryptominisat5 --verb 0 {formula}",
-    "minisat": "minisat -verb=0 {formula} {output}",
-}
-# CaDiCaL writes hints from version 1.7 on, by which a proof is checked ten times faster and more
-HINTS = "cadical -q --no-binary --lrat {formula} {hints}"
-# Kissat's bounded variable addition, from version 4.0 on, brings in new variables: those of two cases of a split would be mixed up
-NO_FACTOR, SATISFIABLE = "--no-factor", 10
-# what CaDiCaL does without a word on a formula without a model, if it knows the option
-NO_MODEL, UNSATISFIABLE = "p cnf 1 2\n1 0\n-1 0\n", 20
-NO_SOLVER = "no SAT solver is on the path (Debian has the packages cadical, cryptominisat and minisat): the search alone is asked"
 REFUSED, CUT_OFF = 2, 130
+# the engines for which there is a script of an array
+ENGINES = ["slurm", "pbs", "sge", "lsf", "kubernetes"]
 GB = 1 << 30
 
 
@@ -64,7 +50,7 @@ def parsed(listed: List[str], name: str) -> Tuple[argparse.ArgumentParser, argpa
     chosen = words.add_mutually_exclusive_group()
     chosen.add_argument("--branch", type=int)
     chosen.add_argument("--share")
-    chosen.add_argument("--array", choices=list(arrays.SYSTEMS))
+    chosen.add_argument("--array", choices=ENGINES)
     chosen.add_argument("--tally", type=pathlib.Path)
     chosen.add_argument("--recheck", type=pathlib.Path)
     # options may stand between tasks and rounds
@@ -95,8 +81,8 @@ def asked(listed: List[str], command: List[str], name: str) -> argparse.Namespac
     if (found.by_branch or found.split) and len(found.files) > 1:
         words.error(f"{'cases' if found.split else 'branches'} are those of one task: ask about one after another")
     if found.solver not in (None, SEARCH_ALONE):
-        wrong = wrong_command(words_of(found.solver))
-        if wrong:
+        from . import solvers
+        if wrong := solvers.wrong_command(solvers.words_of(found.solver)):
             words.error(f"--solver: {wrong}")
     judge_folder(words, found)
     return found
@@ -121,6 +107,7 @@ def file_of(words: argparse.ArgumentParser, name: str) -> pathlib.Path:
     meant, names = path.name.removesuffix(".json"), gallery_names()
     if meant in names and not runs.TASKS.is_dir():
         words.error(f"{path} is no file; `wfcheck-task {meant}` writes the file")
+    import difflib
     near = difflib.get_close_matches(meant, names)
     asked_for = f": {' or '.join(near)}?" if near else ""
     if runs.TASKS.is_dir():
@@ -130,7 +117,10 @@ def file_of(words: argparse.ArgumentParser, name: str) -> pathlib.Path:
 
 def gallery_names() -> List[str]:
     """The names of the gallery's tasks. Where its files are not there, the tasks are made."""
-    return [it.stem for it in runs.TASKS.glob("*.json")] if runs.TASKS.is_dir() else [it.name for it in gallery()]
+    if runs.TASKS.is_dir():
+        return [it.stem for it in runs.TASKS.glob("*.json")]
+    from ..gallery import gallery
+    return [it.name for it in gallery()]
 
 
 def named_program() -> List[str]:
@@ -164,8 +154,8 @@ def judge_split(words: argparse.ArgumentParser, found: argparse.Namespace) -> No
     """Refuses cases of what is not one question."""
     if found.split is None:
         return
-    if not re.fullmatch(rf"\d{{1,9}}|{cases.AUTO}", found.split, re.A):
-        words.error(f"--split is to be the number of a point, or {cases.AUTO}")
+    if not re.fullmatch(r"\d{1,9}|auto", found.split, re.A):
+        words.error("--split is to be the number of a point, or auto")
     if found.share or found.array or found.looks:
         words.error("--split is about the whole question or one branch, and not about --share, --array, --tally or --recheck")
 
@@ -185,63 +175,6 @@ def judge_folder(words: argparse.ArgumentParser, found: argparse.Namespace) -> N
             found.keep.mkdir(parents=True, exist_ok=True)
     except OSError as error:
         words.error(f"--keep: {error}")
-
-
-def wrong_command(solver: str) -> Optional[str]:
-    """Why a solver's words can't be run; None where they can."""
-    try:
-        words = [word.format(**PLACES) for word in shlex.split(solver)]
-    except (KeyError, IndexError, ValueError, AttributeError):
-        return f"{solver!r} has a quote that is not closed, or other places than {', '.join(map('{{{}}}'.format, PLACES))}"
-    return None if words and shutil.which(words[0]) else f"{words[0] if words else solver!r} is not on the path"
-
-
-def known_name(solver: str) -> Optional[str]:
-    """The name of a known solver, by which alone it is called, or with its path; None of other words."""
-    name = pathlib.PurePath(solver).name
-    return name if name in SOLVERS and (solver == name or shutil.which(solver)) else None
-
-
-def with_path(solver: str, words: str) -> str:
-    """The words of a known solver, called as it is called here."""
-    return shlex.quote(solver) + words.removeprefix(pathlib.PurePath(solver).name)
-
-
-def words_of(solver: str) -> str:
-    """The command of a known solver, or the one that is given."""
-    name = known_name(solver)
-    return with_path(solver, SOLVERS[name]) if name else solver
-
-
-def command(solver: str, limits: Limits, has_hints: bool) -> str:
-    """The command of a solver: of Kissat without the option that an older one doesn't know, and of CaDiCaL with hints, if it can write
-    them and they are of use."""
-    name, words = known_name(solver), words_of(solver)
-    if name == "kissat":
-        knows = tried([solver, "-q", NO_FACTOR], "p cnf 1 1\n1 0\n", limits) == SATISFIABLE
-        return words if knows else words.replace(f" {NO_FACTOR}", "")
-    if name == "cadical" and has_hints and tried([solver, "-q", "--no-binary", "--lrat"], NO_MODEL, limits) == UNSATISFIABLE:
-        return with_path(solver, HINTS)
-    return words
-
-
-def tried(words: List[str], text: str, limits: Limits) -> Optional[int]:
-    """The status with which a solver ends on a small formula, with a place for a proof; None if it has none."""
-    with tempfile.TemporaryDirectory() as made:
-        formula, proof = pathlib.Path(made) / "one.cnf", pathlib.Path(made) / "proof"
-        formula.write_text(text)
-        how = {name: subprocess.DEVNULL for name in ("stdin", "stdout", "stderr")}
-        try:
-            return Scope(limits).run([*words, formula, *[proof] * (text == NO_MODEL)], Clock(10), **how)
-        except (Late, OSError):
-            return None
-
-
-def by_path(solver: str) -> str:
-    """The words of a solver, which is named by its path: a job may have another path to look it up in."""
-    name, *rest = shlex.split(solver)
-    path = str(pathlib.Path(shutil.which(name) or name).absolute())
-    return " ".join(word if re.fullmatch(r"[\w./=+{}-]+", word, re.A) else shlex.quote(word) for word in [path, *rest])
 
 
 def refusal(said: str, task: pathlib.Path) -> str:
@@ -272,7 +205,7 @@ def main(listed: List[str], command: List[str], name: str = "ask") -> int:
         if found[-1] == CUT_OFF:
             break
     # that of the whole is 0 if each task is decided
-    return next((it for it in (CUT_OFF, REFUSED, branches.STATUS[None]) if it in found), 0)
+    return next((it for it in (CUT_OFF, REFUSED, STATUS[None]) if it in found), 0)
 
 
 def of_task(words: argparse.Namespace, file: pathlib.Path) -> int:
@@ -292,7 +225,7 @@ def of_task(words: argparse.Namespace, file: pathlib.Path) -> int:
         return no_answer(words, file, "refused", REFUSED)
     except (Undecided, OSError) as why:
         print(f"ask: {why}", file=sys.stderr)
-        return no_answer(words, file, "not decided", branches.STATUS[None])
+        return no_answer(words, file, "not decided", STATUS[None])
 
 
 def no_answer(words: argparse.Namespace, file: pathlib.Path, said: str, status: int) -> int:
@@ -306,32 +239,41 @@ def answered(words: argparse.Namespace) -> int:
     """Asks, and returns the status that the answer has."""
     if has_obstruction(words):
         return of_never(words)
-    solver = words.solver or next(filter(shutil.which, SOLVERS), None)
-    if not solver and not words.looks:
-        print(NO_SOLVER, file=sys.stderr)
-    solver = None if solver in (None, SEARCH_ALONE) or words.looks else command(solver, words.limits, not words.split)
+    if not words.by_branch and not words.split:
+        with Room(words.keep) as room:
+            return in_rounds(words, room)
+    from . import branches, solvers
+    solver = None if words.looks else solver_of(words)
     if words.split and not solver:
         raise Refused("--split needs a SAT solver that writes proofs")
     if words.array:
-        return branches.main(words, by_path(solver) if solver else SEARCH_ALONE, Clock(words.seconds))
+        return branches.main(words, solvers.by_path(solver) if solver else SEARCH_ALONE, Clock(words.seconds))
     if words.by_branch:
         return branches.main(words, solver, Clock(words.seconds))
-    if words.split:
-        return in_cases(words, solver)
-    with Room(words.keep) as room:
-        return in_rounds(words, solver, room)
+    return in_cases(words, str(solver))
 
 
-def in_rounds(words: argparse.Namespace, solver: Optional[str], room: Room) -> int:
+def solver_of(words: argparse.Namespace) -> Optional[str]:
+    """The command of the solver that is asked; None if it is the search alone."""
+    if words.solver == SEARCH_ALONE:
+        return None
+    from . import solvers
+    solver = words.solver or solvers.first_on_path()
+    return solvers.command(solver, words.limits, not words.split) if solver else None
+
+
+def in_rounds(words: argparse.Namespace, room: Room) -> int:
     """Asks about one number of rounds behind another, up to the first with a map, and returns the status of the last that has an answer. A
     number that is refused ends the run, as each larger one would be; what was accepted before is told."""
     answers: Dict[int, Optional[str]] = {}
     answer, refused = None, None
+    # what is found out once, if it is needed: the solver, and the sets of processes that have a map
+    words.chosen, words.with_map = functools.lru_cache(maxsize=None)(lambda: solver_of(words)), set()
     for rounds in words.rounds:
         say(f"{words.task.stem} after {rounds} {'round' if rounds == 1 else 'rounds'}:")
         clock = Clock(words.seconds)
         try:
-            answers[rounds], certificate = decided(words, rounds, solver, room, clock)
+            answers[rounds], certificate = decided(words, rounds, room, clock)
         except Refused as why:
             found = refusal_of(str(why))
             if not answers or not found:
@@ -347,11 +289,12 @@ def in_rounds(words: argparse.Namespace, solver: Optional[str], room: Room) -> i
             break
     words.given.close()
     say(f"{words.task.stem}: {summary(answers, refused)}")
-    return branches.STATUS[answer]
+    return STATUS[answer]
 
 
 def in_cases(words: argparse.Namespace, solver: str) -> int:
     """Asks about the whole question case by case, and returns the status that the answer has."""
+    from . import branches, cases
     rounds, clock, about = words.rounds[0], Clock(words.seconds), branches.listed(words).about
     with Room(words.keep) as room:
         if why := Notes(words.keep).not_about(about, room):
@@ -369,7 +312,7 @@ def in_cases(words: argparse.Namespace, solver: str) -> int:
     word = answer and answer.word
     words.given.close()
     say(f"{words.task.stem}: {summary({rounds: word})}")
-    return branches.STATUS[word]
+    return STATUS[word]
 
 
 def has_obstruction(words: argparse.Namespace) -> bool:
@@ -384,26 +327,49 @@ def of_never(words: argparse.Namespace) -> int:
     if not words.by_branch:
         words.given.close()
         say(f"{words.task.stem}: never, by {words.by}")
-    return 0 if words.branch is not None or words.share else branches.STATUS["none"]
+    return 0 if words.branch is not None or words.share else STATUS["none"]
 
 
-def decided(words: argparse.Namespace, rounds: int, solver: Optional[str], room: Room, clock: Clock) -> Tuple[Optional[str],
-            Optional[table.Certificate]]:
-    """The answer of the first that has one within the limit, and its certificate as a table has it; None for both where nobody has."""
+def decided(words: argparse.Namespace, rounds: int, room: Room, clock: Clock) -> Tuple[Optional[str], Optional[table.Certificate]]:
+    """The first answer that is accepted within the limit, and its certificate as a table has it; None for both where nobody has one. The
+    program is asked alone for a moment before anything else is started."""
     with room.attempt() as made:
         scope = Scope(words.limits)
         attempt = Attempt(Question(words.task, rounds), made, scope, clock)
-        if answer := questions.answered("the hint", lambda: hints.by_hints(attempt, words.hint)):
-            return kept(words, answer)
-        if not words.no_restrict and (answer := questions.answered("the search on fewer", lambda: fewer.none_of_fewer(attempt))):
-            return kept(words, answer)
-        those = {SEARCH: attempt.by_search}
-        if rounds and rounds == words.rounds[0]:
-            those[FEWER_ROUNDS] = attempt.by_fewer_rounds
-        if solver:
-            those[shlex.split(solver)[0]] = functools.partial(attempt.by_solver, solver, words.clauses)
-        answer = first(scope, those)
-        return kept(words, answer) if answer else (None, None)
+        ways = [functools.partial(by_hints, attempt, words), attempt.map_at_once, functools.partial(by_fewer, attempt, words), attempt.none_at_once,
+                functools.partial(by_all, attempt, words)]
+        names = ["the hint", SEARCH, "the search on fewer", SEARCH, "the question"]
+        for name, way in zip(names, ways):
+            if answer := questions.answered(name, way):
+                return kept(words, answer)
+        return None, None
+
+
+def by_hints(attempt: Attempt, words: argparse.Namespace) -> Optional[Answer]:
+    """The answer of a report that is given, if one is."""
+    if not words.hint:
+        return None
+    from . import hints
+    return hints.by_hints(attempt, words.hint)
+
+
+def by_fewer(attempt: Attempt, words: argparse.Namespace) -> Optional[Answer]:
+    """The answer that there is no map for some of the processes."""
+    if words.no_restrict:
+        return None
+    from . import fewer
+    return fewer.none_of_fewer(attempt, words.with_map)
+
+
+def by_all(attempt: Attempt, words: argparse.Namespace) -> Optional[Answer]:
+    """The first answer of those that are asked side by side."""
+    rounds, solver = attempt.question.rounds, words.chosen()
+    those = {SEARCH: attempt.by_search}
+    if rounds and rounds == words.rounds[0] and not attempt.is_none:
+        those[FEWER_ROUNDS] = attempt.by_fewer_rounds
+    if solver:
+        those[split(solver)[0]] = functools.partial(attempt.by_solver, solver, words.clauses)
+    return first(attempt.scope, those)
 
 
 def kept(words: argparse.Namespace, answer: Answer) -> Tuple[str, Optional[table.Certificate]]:
