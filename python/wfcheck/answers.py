@@ -5,7 +5,7 @@ import html
 import itertools
 import json
 import re
-from typing import Callable, Dict, Iterable, List, NamedTuple, Optional, Sequence, Tuple, Union
+from typing import Callable, Dict, List, NamedTuple, Optional, Sequence, Tuple, Union
 
 from .tasks import Simplex, Task
 from .views import Unreadable, View, words_of

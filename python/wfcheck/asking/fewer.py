@@ -53,7 +53,7 @@ def of_some(attempt: Attempt, whole: Task, kept: Tuple[int, ...], clock: Clock, 
     """The refutation of the whole by that of these processes, where the search has one and `verify` accepts what it gives."""
     small, rounds = restrict(whole, kept), attempt.question.rounds
     some = Attempt(Question(write(small, attempt.folder), rounds), attempt.folder, attempt.scope, clock)
-    ended = some.wfcheck(["solve", "--rounds", rounds, "--workers", 1], some.question.task, some.file("report"))
+    ended = some.scope.at_once_or_later(some.search(), clock, some.question.task, some.file("report"))
     if ended.status == MAP:
         with_map.add(kept)
     if ended.status != NONE:
@@ -75,7 +75,7 @@ def of_some(attempt: Attempt, whole: Task, kept: Tuple[int, ...], clock: Clock, 
 def executions(attempt: Attempt, clock: Clock) -> List[Execution]:
     """The executions of an attempt's question, as `wfcheck executions` lists them."""
     listed = attempt.file("executions")
-    attempt.scope.wfcheck(["executions", "--rounds", attempt.question.rounds], clock, attempt.question.task, listed)
+    attempt.scope.at_once_or_later(["executions", "--rounds", attempt.question.rounds], clock, attempt.question.task, listed)
     with open(listed) as text:
         return [execution for number, line in enumerate(text) for execution in read_execution(number, line)]
 

@@ -66,7 +66,7 @@ def sought(words: argparse.Namespace, file: pathlib.Path, scope: Scope, clock: C
     head = [] if options else [f"{words.task.stem} after every number of rounds:"]
     file.unlink(missing_ok=True)
     try:
-        ended = scope.wfcheck(asked, clock, words.task, file)
+        ended = scope.at_once_or_later(asked, clock, words.task, file)
     except Late:
         say("\n".join([*head, f"    wfcheck {' '.join(asked)}: no end within the {clock.seconds:g} s that the obstruction has"]))
         raise
@@ -81,7 +81,7 @@ def sought(words: argparse.Namespace, file: pathlib.Path, scope: Scope, clock: C
 def is_accepted(words: argparse.Namespace, file: pathlib.Path, scope: Scope, clock: Clock) -> bool:
     """Whether `verify` accepts an obstruction of the task; then there is no map, and the last line says so."""
     try:
-        ended = scope.wfcheck(["verify", f"--task={words.task}"], clock, file)
+        ended = scope.at_once_or_later(["verify", f"--task={words.task}"], clock, file)
     except Late:
         say(f"    wfcheck verify: no end within the {clock.seconds:g} s that the obstruction has")
         raise

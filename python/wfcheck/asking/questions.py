@@ -19,10 +19,10 @@ SEARCH, SEARCH_ALONE = "the search", "search"
 FEWER_ROUNDS = "the search after fewer rounds"
 # the share of a question's time in which a map after fewer rounds is looked for
 SHARE = 0.1
-# in seconds: how long the program is asked alone
-AT_ONCE = 0.05
 CLAUSES = rb"(?m)^p cnf \d+ (\d+)$"
 HEAD = 1 << 14
+# a file of fewer bytes most likely is checked in a moment
+SMALL = 1 << 20
 # so many bytes from the end of what a solver said may have its last line
 TAIL = 200
 # how a search ends that has written too many lines: it has an answer, or met the limit of a file
@@ -95,7 +95,9 @@ class Attempt:
         """What wfcheck accepts a file as, a map or none, and how it ended; no word where it refuses the file."""
         question = self.question
         try:
-            ended = self.wfcheck([command, *question.about, *question.branch, *self.kind(command, file)], file)
+            words = [command, *question.about, *question.branch, *self.kind(command, file)]
+            is_small = file.stat().st_size < SMALL
+            ended = self.scope.at_once_or_later(words, self.clock, file) if is_small else self.wfcheck(words, file)
         except Late:
             say(f"    wfcheck {command}: {question.who('no end')} within the {self.clock.seconds:g} s that the question has")
             raise
@@ -115,44 +117,37 @@ class Attempt:
         """The proof that a solver has written, if it has: with hints, if there are any."""
         return next((it for it in map(self.file, ("lrat", "drat")) if it.is_file()), None)
 
+    def search(self, *form: str) -> List[Any]:
+        """The words by which the search is asked."""
+        return ["solve", "--rounds", self.question.rounds, "--workers", 1, *self.question.branch, *form]
+
     def solve(self, wrote: pathlib.Path, *form: str) -> runs.Ended:
         """Has the search answer, and returns how it ended."""
-        words = ["solve", "--rounds", self.question.rounds, "--workers", 1, *self.question.branch, *form]
-        ended = self.wfcheck(words, self.question.task, wrote)
+        ended = self.wfcheck(self.search(*form), self.question.task, wrote)
         if ended.status == 2:
             raise Refused(ended.said)
         return ended
 
-    def at_once(self, wrote: pathlib.Path, *form: str) -> Optional[runs.Ended]:
-        """How the search ended that had a moment to answer; None if it had no end by then."""
-        whole, self.clock = self.clock, Clock(min(AT_ONCE, max(self.clock.left(), 0)))
-        try:
-            return self.solve(wrote, *form)
-        except Late:
-            return None
-        finally:
-            self.clock = whole
-
     def map_at_once(self) -> Optional[Answer]:
-        """The map that the search finds in a moment, and that is accepted. It is also noted if the search says that there is none."""
-        report = self.file("report")
-        ended = self.at_once(report, "--verdict")
-        if ended and ended.status == 0:
-            self.tell(SEARCH, f"says map in {ended.taken:.2f} s")
-            if self.accepted(report) == "map":
-                return Answer("map", SEARCH, ended.taken, [report])
-        self.is_none = ended is not None and ended.status == 1
-        report.unlink()
-        return None
+        """The map that the search finds in a moment, if it is accepted. It is noted if the search says that there is none."""
+        return self.at_once("map", "--verdict")
 
     def none_at_once(self) -> Optional[Answer]:
-        """The refutation that the search writes in a moment, where it said that there is no map, and that is accepted."""
+        """The refutation that the search writes in a moment, once it said that there is no map, if it is accepted."""
+        return self.at_once("none") if self.is_none else None
+
+    def at_once(self, word: str, *form: str) -> Optional[Answer]:
+        """The search's answer, if it comes in a moment, is this one, and is accepted."""
         report = self.file("report")
-        ended = self.at_once(report) if self.is_none else None
-        if ended and ended.status == 1:
-            self.tell(SEARCH, f"says none in {ended.taken:.2f} s")
-            if self.accepted(report) == "none":
-                return Answer("none", SEARCH, ended.taken, [report])
+        ended = self.scope.at_once(self.search(*form), self.clock, self.question.task, report)
+        if ended and ended.status == 2:
+            raise Refused(ended.said)
+        said = {0: "map", 1: "none"}.get(ended.status) if ended else None
+        self.is_none = said == "none"
+        if ended and said == word:
+            self.tell(SEARCH, f"says {word} in {ended.taken:.2f} s")
+            if self.accepted(report) == word:
+                return Answer(word, SEARCH, ended.taken, [report])
         report.unlink(missing_ok=True)
         return None
 

@@ -32,6 +32,8 @@ SHELL, DIE_WITH_PARENT = 128, 1
 LONGEST_PAUSE, SHORT_PAUSE = 0.01, 0.002
 # in seconds: how long after a child this run may get a signal that both get
 GRACE = 0.5
+# in seconds: how long the program is asked alone before anything else is started
+AT_ONCE = 0.05
 CUT_OFF = threading.Event()
 # so that lines of several threads don't mix
 ONE_LINE = threading.Lock()
@@ -128,27 +130,46 @@ class Scope:
         CUT_OFF.wait(GRACE)
         self.go_on()
 
-    def run(self, words: Sequence[Any], clock: Clock, **how: Any) -> int:
+    def run(self, words: Sequence[Any], clock: Clock, is_short: bool = False, **how: Any) -> int:
         """Runs a program, as `Child.wait` does, and returns its status."""
         self.go_on()
         look = how.pop("look", None)
-        return Child(words, self, how).wait(clock, look)
+        return Child(words, self, how, is_short).wait(clock, look)
 
-    def wfcheck(self, words: Sequence[Any], clock: Clock, given: Given, wrote: Optional[pathlib.Path] = None, look: Look = None) -> Ended:
+    def wfcheck(self, words: Sequence[Any], clock: Clock, given: Given, wrote: Optional[pathlib.Path] = None, look: Look = None,
+                is_short: bool = False) -> Ended:
         """Runs wfcheck over a file. What it writes goes to a file that must not be there yet, or is told with what it says."""
         begun = time.monotonic()
         with open(given, "rb", opener=not_waiting) as read, tempfile.TemporaryFile() as told, open(wrote or os.devnull, "xb" if wrote else "ab") as write:
-            status = self.run([str(program()), *map(str, words)], clock, look=look, stdin=read, stdout=write if wrote else told, stderr=told)
+            status = self.run([str(program()), *map(str, words)], clock, is_short, look=look, stdin=read, stdout=write if wrote else told, stderr=told)
             told.seek(0)
             return Ended(status, told.read(TOLD).decode(errors="replace"), time.monotonic() - begun)
+
+    def at_once(self, words: Sequence[Any], clock: Clock, given: Given, wrote: Optional[pathlib.Path] = None) -> Optional[Ended]:
+        """Runs wfcheck over a file for a moment; None if it has no end by then. What it wrote until then is taken away."""
+        short = Clock(min(AT_ONCE, clock.left()))
+        try:
+            return self.wfcheck(words, short, given, wrote, is_short=True)
+        except Late:
+            if wrote:
+                wrote.unlink()
+            return None
+
+    def at_once_or_later(self, words: Sequence[Any], clock: Clock, given: Given, wrote: Optional[pathlib.Path] = None) -> Ended:
+        """Runs wfcheck over a file, first for a moment. Raises Late if it has no end within the clock's time."""
+        return self.at_once(words, clock, given, wrote) or self.wfcheck(words, clock, given, wrote)
 
 
 class Child:
     """A program that was started, with all that it starts."""
 
-    def __init__(self, words: Sequence[Any], scope: Scope, how: Dict[str, Any]) -> None:
+    def __init__(self, words: Sequence[Any], scope: Scope, how: Dict[str, Any], is_short: bool) -> None:
         self.scope = scope
-        self.process = subprocess.Popen(words, start_new_session=True, preexec_fn=limited(scope.limits), **how)
+        # a call before a program begins takes longer than many programs
+        before = None if is_short else limited(scope.limits)
+        self.process = subprocess.Popen(words, start_new_session=True, preexec_fn=before, **how)
+        if is_short:
+            shorten(self.process.pid, scope.limits)
 
     def wait(self, clock: Clock, look: Look = None) -> int:
         """Waits for the end and returns the status, and calls `look` again and again until then. Raises Late or Stopped if that comes
@@ -194,13 +215,17 @@ def not_waiting(path: str, flags: int) -> int:
     return os.open(path, flags | os.O_NONBLOCK, 0o666)
 
 
+def least_of(limits: Limits) -> Dict[int, int]:
+    """What a process may take that is started, by the kinds of limits: no more than this run itself may."""
+    wanted = {resource.RLIMIT_AS: limits.memory, resource.RLIMIT_FSIZE: limits.file, resource.RLIMIT_CORE: 0}
+    found = {kind: resource.getrlimit(kind)[1] for kind in wanted}
+    return {kind: most if found[kind] == resource.RLIM_INFINITY else min(most, found[kind]) for kind, most in wanted.items()}
+
+
 def limited(limits: Limits) -> Callable[[], None]:
     """Sets the limits in a process that is about to become another program, and has it end where this one is killed."""
-    wanted = {resource.RLIMIT_AS: limits.memory, resource.RLIMIT_FSIZE: limits.file, resource.RLIMIT_CORE: 0}
     import ctypes
-    prctl = ctypes.CDLL(None).prctl
-    found = {kind: resource.getrlimit(kind)[1] for kind in wanted}
-    least = {kind: most if found[kind] == resource.RLIM_INFINITY else min(most, found[kind]) for kind, most in wanted.items()}
+    prctl, least = ctypes.CDLL(None).prctl, least_of(limits)
 
     def limit() -> None:
         """Sets the limits."""
@@ -208,6 +233,14 @@ def limited(limits: Limits) -> Callable[[], None]:
             resource.setrlimit(kind, (most, most))
         prctl(DIE_WITH_PARENT, signal.SIGKILL)
     return limit
+
+
+def shorten(process: int, limits: Limits) -> None:
+    """Sets the limits of a program that has just begun and has a moment to end. If this run is killed, the system ends it after a second."""
+    # it may have ended by now
+    with contextlib.suppress(OSError):
+        for kind, most in {**least_of(limits), resource.RLIMIT_CPU: 1}.items():
+            resource.prlimit(process, kind, (most, most))
 
 
 def say(text: str) -> None:

@@ -39,7 +39,7 @@ def first_on_path() -> Optional[str]:
 def wrong_command(solver: str) -> Optional[str]:
     """Why a solver's words can't be run; None where they can."""
     try:
-        words = [word.format(**PLACES) for word in split(solver)]
+        words = [word.format(**PLACES) for word in shlex.split(solver)]
     except (KeyError, IndexError, ValueError, AttributeError):
         return f"{solver!r} has a quote that is not closed, or other places than {', '.join(map('{{{}}}'.format, PLACES))}"
     return None if words and shutil.which(words[0]) else f"{words[0] if words else solver!r} is not on the path"
@@ -88,6 +88,6 @@ def tried(words: List[str], text: str, limits: Limits) -> Optional[int]:
 
 def by_path(solver: str) -> str:
     """The words of a solver, which is named by its path: a job may have another path to look it up in."""
-    name, *rest = split(solver)
+    name, *rest = shlex.split(solver)
     path = str(pathlib.Path(shutil.which(name) or name).absolute())
     return " ".join(word if re.fullmatch(r"[\w./=+{}-]+", word, re.A) else shlex.quote(word) for word in [path, *rest])

@@ -7,9 +7,7 @@ import io
 import os
 import pathlib
 import re
-import shutil
 import signal
-import subprocess
 import sys
 import tempfile
 from typing import Dict, List, Optional, Tuple
@@ -20,8 +18,8 @@ from . import __doc__ as about
 from . import never, questions, runs, table
 from .given import Given, in_line
 from .notes import Notes, Room, keep
-from .questions import FEWER_ROUNDS, PLACES, SEARCH, SEARCH_ALONE, Answer, Attempt, Question, first, split
-from .runs import Clock, Late, Limits, Refused, Scope, Stopped, Undecided, say
+from .questions import FEWER_ROUNDS, SEARCH, SEARCH_ALONE, Answer, Attempt, Question, first, split
+from .runs import Clock, Limits, Refused, Scope, Stopped, Undecided, say
 from .summary import STATUS, refused_in_words, summary
 
 REFUSED, CUT_OFF = 2, 130
