@@ -62,8 +62,11 @@ def read(path: Union[str, "os.PathLike[str]"]) -> Task:
         raise TypeError(f"a file is named by a string or a path, and not by {path!r}")
     file = pathlib.Path(path)
     try:
-        with files.opened(file) as text:
-            made = Task(file.name.removesuffix(".json"), text.read().decode("utf-8"))
+        with files.opened(file) as opened:
+            text = opened.read(LONGEST + 1)
+        if len(text) > LONGEST:
+            raise ValueError(f"it has more than {LONGEST:,} bytes, and no task has")
+        made = Task(file.name.removesuffix(".json"), text.decode("utf-8"))
     except (OSError, ValueError) as error:
         raise NoFile(f"{file} can't be read: {told(error)}") from error
     return made._replace(names=names_beside(file))

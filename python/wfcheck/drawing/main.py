@@ -6,7 +6,9 @@ import sys
 import tempfile
 from typing import Callable, List, NamedTuple, Optional
 
+from .. import files
 from ..answers import FIRST, OBSTRUCTION, body, obstruction_of, report_of
+from ..files import LONGEST
 from ..questions import explained, verify
 from ..running import Error, NoFile, Refused, run
 from ..tasks import Simplex, Task, read, told
@@ -139,11 +141,17 @@ def of_obstruction(task: Task, text: str, asked: argparse.Namespace, choice: Cho
 
 
 def text_of(path: str) -> str:
-    """The text of a report, from a file or a pipe. Raises NoFile if it can't be read."""
+    """The text of a report, from a file or a pipe. Raises NoFile if it can't be read, is empty, or is longer than `wfcheck verify` reads."""
     try:
-        return pathlib.Path(path).read_text(encoding="ascii", errors="replace")
-    except OSError as error:
+        with open(path, "rb") as file:
+            text = file.read(LONGEST + 1)
+    except (OSError, ValueError) as error:
         raise NoFile(f"{path} can't be read: {told(error)}") from error
+    if not text:
+        raise NoFile(f"{path} is empty: did the command fail that was to write it?")
+    if len(text) > LONGEST:
+        raise NoFile(f"{path} has more than {LONGEST:,} bytes, and no more are read")
+    return text.decode("ascii", errors="replace")
 
 
 def keep(text: str, path: Optional[str]) -> None:
@@ -155,13 +163,14 @@ def keep(text: str, path: Optional[str]) -> None:
     file = pathlib.Path(path)
     if not file.parent.is_dir():
         raise Stopped(f"{file.parent} is no folder to write into")
-    handle, made = tempfile.mkstemp(dir=file.parent, prefix=f".{file.name}.")
+    # a name of any length may stand behind that of the file
+    handle, made = tempfile.mkstemp(dir=file.parent, prefix=".wfcheck-draw.")
     try:
         with os.fdopen(handle, "w", encoding="utf-8") as it:
             it.write(text)
         os.chmod(made, 0o644)
         os.replace(made, file)
-    except OSError:
+    except BaseException:
         os.unlink(made)
         raise
 
@@ -169,6 +178,7 @@ def keep(text: str, path: Optional[str]) -> None:
 def main(listed: Optional[List[str]] = None) -> int:
     """Does what the words say, and returns the status: 0 for a picture, 2 for none."""
     asked = words().parse_args(sys.argv[1:] if listed is None else listed)
+    files.any_text_can_be_written()
     try:
         task = read(asked.task)
         text = None if asked.report is None else text_of(asked.report)
@@ -178,7 +188,7 @@ def main(listed: Optional[List[str]] = None) -> int:
         print(f"{called()}: {why}", file=sys.stderr)
         return REFUSED
     except OSError as why:
-        print(f"{called()}: {why.filename if why.filename else 'writing'}: {why.strerror}", file=sys.stderr)
+        print(f"{called()}: {asked.output or 'writing'}: {why.strerror}", file=sys.stderr)
         return REFUSED
     return 0
 
