@@ -36,8 +36,12 @@ SOLVERS = {"cadical": "cadical -q --no-binary {formula} {proof}", "kissat": "kis
            "cryptominisat5": "cryptominisat5 --verb 0 {formula}", "minisat": "minisat -verb=0 {formula} {output}"}
 SAYS = re.compile(rb"^(?:s )?(UN)?SAT(?:ISFIABLE)?\s*$", re.M)
 NO_SOLVER = "no SAT solver is on the path (Debian has the packages cadical, cryptominisat and minisat): an obstruction alone is looked for"
+# how many bytes of what a solver wrote are read
+LONGEST = 1 << 28
+# how many bytes of a task's name count
+MOST_OF_NAME = 180
 # what would break a line
-BREAKS = {it: "_" for it in [*range(32), 127, 0x85, 0x2028, 0x2029]}
+BREAKS = {it: "_" for it in [*range(32), *range(127, 160), 0x2028, 0x2029, *range(0xd800, 0xe000)]}
 STATUS = {"map": 0, "none": 1, None: 3}
 
 
@@ -70,10 +74,11 @@ def nodes_of(text):
 
 
 def written(file):
-    """What a solver left at a place, if that is a file of its own and no link; else None."""
+    """What a solver left at a place, if that is a file of its own and no link, and is not too long; else None."""
     try:
         with open(os.open(file, os.O_RDONLY | os.O_NOFOLLOW | os.O_NONBLOCK), "rb") as text:
-            return text.read() if stat.S_ISREG(os.fstat(text.fileno()).st_mode) else None
+            about = os.fstat(text.fileno())
+            return text.read() if stat.S_ISREG(about.st_mode) and about.st_size <= LONGEST else None
     except OSError:
         return None
 
@@ -88,7 +93,7 @@ class Run:
 
     def __init__(self, asked, solver, text, folder):
         self.seconds, self.keep, self.solver, self.text, self.folder = asked.seconds, asked.keep, solver, text, folder
-        self.name = asked.task.stem.translate(BREAKS)
+        self.name = asked.task.stem.translate(BREAKS).encode()[:MOST_OF_NAME].decode(errors="ignore")
 
     def script(self, name, *words, given=None):
         """Has a script beside this one run about the task, with some texts as further files, and says what it said. Returns what it wrote, or

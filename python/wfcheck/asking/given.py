@@ -2,21 +2,22 @@
 of this run, so that a file that changes meanwhile can't mix the answers of two tasks. Before the last line the file is compared."""
 from __future__ import annotations
 
+import os
 import pathlib
-import re
+
 from .. import files
-from ..files import LONGEST
+from ..files import LONGEST, in_line
 from .runs import Undecided, say
 
-# what would break the lines of notes and of the answer
-BREAKS = "[\x00-\x1f\x7f\x85\u2028\u2029]"
+# how many bytes of a name count: behind it stand the rounds, the branch, a number and the kind of a file
+MOST_OF_NAME = 180
 
 
 class Given:
     """The file that was named, and the copy of its first bytes that were read."""
 
     def __init__(self, file: pathlib.Path, folder: pathlib.Path) -> None:
-        self.file, self.copy = file, folder / in_line(file.name)
+        self.file, self.copy = file, folder / short(file.name)
         # the copy is compared with these bytes
         self.text = read(file)
         self.copy.write_bytes(self.text)
@@ -33,9 +34,10 @@ class Given:
                 f"{hashlib.sha256(self.text).hexdigest()}")
 
 
-def in_line(text: str) -> str:
-    """A name without what would break a line."""
-    return re.sub(BREAKS, "_", text)
+def short(name: str) -> str:
+    """A file's name as files of this run begin with it: without what breaks a line, and cut if it is long."""
+    stem, kind = os.path.splitext(in_line(name))
+    return (stem if len(stem.encode()) <= MOST_OF_NAME else stem.encode()[:MOST_OF_NAME].decode(errors="ignore")) + kind
 
 
 def read(file: pathlib.Path) -> bytes:

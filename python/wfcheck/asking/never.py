@@ -23,11 +23,14 @@ NODE = r"(?m)^(case|split|cover|balance) (\d+)"
 
 def is_never(words: argparse.Namespace) -> bool:
     """Whether an obstruction of the task is found and accepted. It has as much time as a number of rounds."""
-    with Room(words.keep) as room, room.attempt() as made:
+    # the folder that keeps may be full, and then what is found is told all the same
+    with Room(None) as room, room.attempt() as made:
         file, scope, clock = made / f"{words.task.stem}.obstruction", Scope(words.limits), Clock(words.seconds)
         found = answered("wfcheck obstruction", lambda: is_found(words, file, scope, clock))
+        if found:
+            words.accepted = file.suffix, file.read_bytes() if words.show else None
         if found and words.keep:
-            keep(file, words.keep)
+            keep(file, words.keep, words.kept)
         if found:
             note(words, file, clock)
     return bool(found)

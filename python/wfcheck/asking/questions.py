@@ -1,13 +1,16 @@
 """A question for `ask`, and one attempt to answer it: by the search or by a SAT solver, and then by the check of what that wrote."""
 from __future__ import annotations
 
+import errno
 import os
 import pathlib
 import re
+import shutil
 import signal
 import subprocess
 from typing import Any, Callable, Dict, List, NamedTuple, Optional, Sequence, Tuple, TypeVar
 
+from .. import files
 from . import runs
 from .given import in_line
 from .notes import VERDICT
@@ -248,6 +251,8 @@ class Attempt:
         with open(self.file("said"), "xb") as said:
             command = [word.format(**names) for word in split(words)]
             status = self.scope.run(command, self.clock, stdin=subprocess.DEVNULL, stdout=said, stderr=said)
+        for kind in PLACES.values():
+            make_own(self.file(kind), self.clock, self.scope.limits.file)
         if status < 0:
             self.tell(solver_name(words), f"has no answer: {runs.Ended(status, '', 0).why()}")
             return None
@@ -307,6 +312,29 @@ class Attempt:
 def solver_name(words: str) -> str:
     """What a solver is called whose command these words are."""
     return in_line(pathlib.PurePath(split(words)[0]).name)
+
+
+def make_own(file: pathlib.Path, clock: Clock, most: int) -> None:
+    """Puts a copy in the place of a file that a solver left, if that is a link or has another name: so what is checked is what is kept. What
+    is no file, or has too many bytes, is taken away."""
+    if not os.path.lexists(file) or not file.is_symlink() and file.is_file() and file.stat().st_nlink == 1:
+        return
+    copy, size = file.with_name(f"{file.name}.copy"), 0
+    try:
+        with files.opened(file) as text, open(copy, "xb") as own:
+            while piece := text.read(1 << 20):
+                clock.go_on()
+                size += len(piece)
+                if size > most:
+                    raise OSError(errno.EFBIG, os.strerror(errno.EFBIG), str(file))
+                own.write(piece)
+        copy.replace(file)
+    except OSError:
+        copy.unlink(missing_ok=True)
+        if file.is_dir() and not file.is_symlink():
+            shutil.rmtree(file, ignore_errors=True)
+        else:
+            file.unlink(missing_ok=True)
 
 
 def split(words: str) -> List[str]:

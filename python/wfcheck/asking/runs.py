@@ -15,7 +15,7 @@ import sys
 import tempfile
 import threading
 import time
-from typing import Any, Callable, Dict, Iterator, NamedTuple, Optional, Sequence, Union
+from typing import Any, Callable, Dict, Iterator, List, NamedTuple, Optional, Sequence, Set, Union
 
 from ..running import TOP, program
 
@@ -27,7 +27,7 @@ Look = Optional[Callable[[], None]]
 TOLD = 1 << 20
 # a program that one of these ended was most likely ended with all of this run, which then gets the signal within a second
 ENDING = (signal.SIGHUP, signal.SIGINT, signal.SIGTERM)
-SHELL, DIE_WITH_PARENT = 128, 1
+SHELL, DIE_WITH_PARENT, ADOPT = 128, 1, 36
 # in seconds: how long nobody looks whether the time is over, and whether a program has ended that doesn't tell it
 LONGEST_PAUSE, SHORT_PAUSE = 0.01, 0.002
 # in seconds: how long after a child this run may get a signal that both get
@@ -35,6 +35,11 @@ GRACE = 0.5
 # in seconds: how long the program is asked alone before anything else is started
 AT_ONCE = 0.05
 CUT_OFF = threading.Event()
+# the processes that go on and that this run has started
+OWN: Set[int] = set()
+OWN_LOCK = threading.Lock()
+# how often it is looked for what children left behind: what is ended may have started more
+TRIES = 20
 # so that lines of several threads don't mix
 ONE_LINE = threading.Lock()
 # in seconds: how often it is told what goes on
@@ -167,7 +172,9 @@ class Child:
         self.scope = scope
         # a call before a program begins takes longer than many programs
         before = None if is_short else limited(scope.limits)
-        self.process = subprocess.Popen(words, start_new_session=True, preexec_fn=before, **how)
+        with OWN_LOCK:
+            self.process = subprocess.Popen(words, start_new_session=True, preexec_fn=before, **how)
+            OWN.add(self.process.pid)
         if is_short:
             shorten(self.process.pid, scope.limits)
 
@@ -184,7 +191,11 @@ class Child:
                     pause()
         finally:
             os.killpg(self.process.pid, signal.SIGKILL)
-            status = self.process.wait()
+            os.waitid(os.P_PID, self.process.pid, os.WEXITED | os.WNOWAIT)
+            with OWN_LOCK:
+                status = self.process.wait()
+                OWN.discard(self.process.pid)
+            end_strangers()
         if status in [it for end in ENDING for it in (-end, SHELL + end)]:
             CUT_OFF.wait(1)
         self.scope.go_on()
@@ -215,6 +226,36 @@ def not_waiting(path: str, flags: int) -> int:
     return os.open(path, flags | os.O_NONBLOCK, 0o666)
 
 
+def end_strangers() -> None:
+    """Ends what children of this run left behind in sessions of their own, once none of the children goes on. The system gives such
+    processes to this run as soon as their parents are gone."""
+    with OWN_LOCK:
+        for _ in range(TRIES if Adopting.is_on and not OWN else 0):
+            strangers = children()
+            for it in strangers:
+                # one of another user can't be ended
+                with contextlib.suppress(OSError):
+                    os.kill(it, signal.SIGKILL)
+                    os.waitpid(it, 0)
+            if not strangers:
+                return
+
+
+def children() -> List[int]:
+    """The children of this run, as the system lists them by its threads; none if it lists none."""
+    found: List[int] = []
+    with contextlib.suppress(OSError):
+        for thread in os.listdir("/proc/self/task"):
+            with contextlib.suppress(OSError), open(f"/proc/self/task/{thread}/children", encoding="ascii") as listed:
+                found += map(int, listed.read().split())
+    return found
+
+
+class Adopting:
+    """Whether this run is given the processes that its children leave behind."""
+    is_on = False
+
+
 def least_of(limits: Limits) -> Dict[int, int]:
     """What a process may take that is started, by the kinds of limits: no more than this run itself may."""
     wanted = {resource.RLIMIT_AS: limits.memory, resource.RLIMIT_FSIZE: limits.file, resource.RLIMIT_CORE: 0}
@@ -226,6 +267,8 @@ def limited(limits: Limits) -> Callable[[], None]:
     """Sets the limits in a process that is about to become another program, and has it end where this one is killed."""
     import ctypes
     prctl, least = ctypes.CDLL(None).prctl, least_of(limits)
+    if not Adopting.is_on:
+        Adopting.is_on = prctl(ADOPT, 1, 0, 0, 0) == 0
 
     def limit() -> None:
         """Sets the limits."""

@@ -2,6 +2,7 @@
 from __future__ import annotations
 
 import argparse
+import contextlib
 import functools
 import io
 import os
@@ -12,6 +13,7 @@ import sys
 import tempfile
 from typing import Dict, List, Optional, Tuple
 
+from .. import files
 from ..running import VARIABLE, NoProgram, linter, program
 from ..running import refusal as refusal_of
 from . import __doc__ as about
@@ -39,6 +41,7 @@ def parsed(listed: List[str], name: str) -> Tuple[argparse.ArgumentParser, argpa
     words.add_argument("--memory", type=float, default=4)
     words.add_argument("--disk", type=float, default=4)
     words.add_argument("--keep", type=pathlib.Path)
+    words.add_argument("--show", action="store_true")
     words.add_argument("--no-obstruction", action="store_true")
     words.add_argument("--no-restrict", action="store_true")
     words.add_argument("--hint", type=pathlib.Path, action="append", default=[])
@@ -72,10 +75,13 @@ def asked(listed: List[str], command: List[str], name: str) -> argparse.Namespac
     found.files = [file_of(words, name) for name in found.tasks]
     if (found.by_branch or found.split) and len(found.rounds) > 1:
         words.error(f"{'cases' if found.split else 'branches'} are those of one number of rounds, and not of FIRST..LAST")
+    if found.by_branch and found.show:
+        words.error("--show is about whole questions, and not about branches")
     if (found.by_branch or found.split) and found.hint:
         words.error("--hint is about whole questions, and not about branches or cases")
     if missing := next((it for it in found.hint if not it.is_file()), None):
         words.error(f"--hint: {missing} is no file")
+    judge_table(words, found)
     if (found.by_branch or found.split) and len(found.files) > 1:
         words.error(f"{'cases' if found.split else 'branches'} are those of one task: ask about one after another")
     if found.solver not in (None, SEARCH_ALONE):
@@ -148,6 +154,14 @@ def judge_numbers(words: argparse.ArgumentParser, found: argparse.Namespace) -> 
     found.limits = Limits(int(found.memory * GB), int(found.disk * GB))
 
 
+def judge_table(words: argparse.ArgumentParser, found: argparse.Namespace) -> None:
+    """Refuses a table that is a file which is read: lines would be appended to it."""
+    with contextlib.suppress(OSError):
+        for file in [*found.files, *found.hint] if found.table.file else []:
+            if file.samefile(found.table.file):
+                words.error(f"--table: {in_line(str(found.table.file))} is a file that is read, and lines would be appended to it")
+
+
 def judge_split(words: argparse.ArgumentParser, found: argparse.Namespace) -> None:
     """Refuses cases of what is not one question."""
     if found.split is None:
@@ -209,6 +223,8 @@ def main(listed: List[str], command: List[str], name: str = "ask") -> int:
 def of_task(words: argparse.Namespace, file: pathlib.Path) -> int:
     """Asks about the task of a file, and returns the status."""
     one = argparse.Namespace(**vars(words))
+    # the files that are kept, and what was accepted last
+    one.kept, one.accepted = [], None
     try:
         with tempfile.TemporaryDirectory() as made:
             one.given = Given(file, pathlib.Path(made))
@@ -285,7 +301,7 @@ def in_rounds(words: argparse.Namespace, room: Room) -> int:
         say(f"    {answer or 'not decided' + (f' within {words.seconds:g} s' if clock.taken() >= words.seconds else '')}")
         if answer == "map":
             break
-    words.given.close()
+    before_last(words)
     say(f"{words.task.stem}: {summary(answers, refused)}")
     return STATUS[answer]
 
@@ -302,13 +318,15 @@ def in_cases(words: argparse.Namespace, solver: str) -> int:
             whole = Attempt(Question(words.task, rounds), made, Scope(words.limits), Clock(words.seconds))
             by_cases = cases.Cases(words, solver, room, whole)
             answer = questions.answered("the question", by_cases.answer)
+            if answer:
+                accept(words, answer.files[0])
             for file in answer.files if answer else []:
-                keep(file, words.keep)
+                keep(file, words.keep, words.kept)
             if answer:
                 by_cases.clear()
             words.table.add(words.task, rounds, answer and answer.word, answer and words.table.of_file(answer.files[0]), clock.taken())
     word = answer and answer.word
-    words.given.close()
+    before_last(words)
     say(f"{words.task.stem}: {summary({rounds: word})}")
     return STATUS[word]
 
@@ -323,9 +341,23 @@ def has_obstruction(words: argparse.Namespace) -> bool:
 def of_never(words: argparse.Namespace) -> int:
     """The status of a task that has no map after any number of rounds. All its branches are decided then."""
     if not words.by_branch:
-        words.given.close()
+        before_last(words)
         say(f"{words.task.stem}: never, by {words.by}")
     return 0 if words.branch is not None or words.share else STATUS["none"]
+
+
+def before_last(words: argparse.Namespace) -> None:
+    """Says before the last line what was accepted, if that is asked for, where it is kept, or how to keep it, and whether the file has changed."""
+    if words.show and words.accepted:
+        from . import showing
+        for line in showing.shown(words):
+            say(f"    {line}")
+    names = [in_line(str(it)) for it in dict.fromkeys(words.kept)]
+    if names:
+        say(f"    kept: {', '.join(names)}")
+    elif words.accepted and not words.keep:
+        print("not kept: `--keep FOLDER` keeps what was accepted" + (", and `--show` prints it" if not words.show else ""), file=sys.stderr)
+    words.given.close()
 
 
 def decided(words: argparse.Namespace, rounds: int, room: Room, clock: Clock) -> Tuple[Optional[str], Optional[table.Certificate]]:
@@ -370,8 +402,14 @@ def by_all(attempt: Attempt, words: argparse.Namespace) -> Optional[Answer]:
     return first(attempt.scope, those)
 
 
+def accept(words: argparse.Namespace, certificate: pathlib.Path) -> None:
+    """Notes what was accepted last: the kind of its certificate, and if it is to be shown its text."""
+    words.accepted = certificate.suffix, certificate.read_bytes() if words.show and certificate.stat().st_size <= files.LONGEST else None
+
+
 def kept(words: argparse.Namespace, answer: Answer) -> Tuple[str, Optional[table.Certificate]]:
     """An answer whose files are put into the folder, where there is one, and its certificate as a table has it."""
+    accept(words, answer.files[0])
     for file in answer.files if words.keep else []:
-        keep(file, words.keep)
+        keep(file, words.keep, words.kept)
     return answer.word, words.table.of_file(answer.files[0])
