@@ -14,6 +14,7 @@ from typing import TYPE_CHECKING, Any, List
 
 if TYPE_CHECKING:
     from .answers import Answer, Branching, Closed, Map, Multiplier, Node, Obstruction, Proof, Refutation, Step, Taken, tell
+    from .combining import product, restrict_inputs, union
     from .deciding import ask, decide
     from .outcomes import Between, From, MapAt, Never, NoneUpTo, NotDecided
     from .questions import explain, obstruction, points, solve, trim, verify
@@ -26,6 +27,7 @@ if TYPE_CHECKING:
 # the module of each name that is offered: it is imported once the name is asked for, so that a command imports what it needs
 PLACES = {
     "answers": ("Answer", "Branching", "Closed", "Map", "Multiplier", "Node", "Obstruction", "Proof", "Refutation", "Step", "Taken", "tell"),
+    "combining": ("product", "restrict_inputs", "union"),
     "deciding": ("ask", "decide"),
     "outcomes": ("Between", "From", "MapAt", "Never", "NoneUpTo", "NotDecided"),
     "questions": ("explain", "obstruction", "points", "solve", "trim", "verify"),
@@ -38,8 +40,8 @@ PLACES = {
 __all__ = [
     "Answer", "Between", "Branching", "Closed", "Error", "From", "Map", "MapAt", "Mistake", "Multiplier", "Never", "NoAnswer", "NoFile",
     "NoProgram", "Node", "NoneUpTo", "NotDecided", "Obstruction", "Proof", "Refutation", "Refused", "Step", "Taken", "Task", "View",
-    "__version__", "ask", "decide", "explain", "obstruction", "points", "read", "restrict", "rules", "solve", "task", "tell", "trim",
-    "verify", "write",
+    "__version__", "ask", "decide", "explain", "obstruction", "points", "product", "read", "restrict", "restrict_inputs", "rules", "solve",
+    "task", "tell", "trim", "union", "verify", "write",
 ]
 
 

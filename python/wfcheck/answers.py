@@ -7,7 +7,8 @@ import json
 import re
 from typing import Callable, Dict, List, NamedTuple, Optional, Sequence, Tuple, Union
 
-from .tasks import Simplex, Task
+from .arguments import a_task, a_view
+from .tasks import NoTask, Simplex, Task
 from .views import Unreadable, View, words_of
 
 FIRST, OBSTRUCTION = "wfcheck report 1", "wfcheck obstruction 1"
@@ -172,8 +173,16 @@ def cut(text: str) -> str:
 
 
 def tell(task: Task, view: View) -> str:
-    """A view of a task in words, as `wfcheck points` tells it, with the names that inputs have."""
-    return words_of(view, letter_of(task.text), task.names)
+    """A view of a task in words, as `wfcheck points` tells it, with the names that inputs have.
+
+    Raises TypeError if it is given no task or no view, and NoTask, a Mistake, if the text of the task is none."""
+    a_task(task)
+    a_view(view)
+    try:
+        letter = letter_of(task.text)
+    except (KeyError, RecursionError, TypeError, ValueError) as error:
+        raise NoTask(f"{task.name}: the text is that of no task") from error
+    return words_of(view, letter, task.names)
 
 
 @functools.lru_cache(maxsize=8)

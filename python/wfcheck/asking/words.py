@@ -356,7 +356,7 @@ def before_last(words: argparse.Namespace) -> None:
     if names:
         say(f"    kept: {', '.join(names)}")
     elif words.accepted and not words.keep:
-        print("not kept: `--keep FOLDER` keeps what was accepted" + (", and `--show` prints it" if not words.show else ""), file=sys.stderr)
+        say("    not kept: `--keep FOLDER` keeps what was accepted" + (", and `--show` prints it" if not words.show else ""))
     words.given.close()
 
 

@@ -2,9 +2,10 @@
 import argparse
 import os
 import pathlib
+import re
 import sys
 import tempfile
-from typing import Callable, List, NamedTuple, Optional
+from typing import Callable, List, NamedTuple, Optional, Tuple
 
 from .. import files
 from ..answers import FIRST, OBSTRUCTION, body, obstruction_of, report_of
@@ -23,6 +24,7 @@ from .subdivision import rules_of
 from .svg import svg
 
 REFUSED, INSTALLED = 2, "wfcheck-draw"
+INPUT, NUMBER = re.compile(r"p(\d{1,9})=(.+)", re.A), re.compile(r"\d{1,9}", re.A)
 ABOUT = """Draws a task's complex after some rounds, and what a report or an obstruction says of it. `wfcheck verify` is asked
 first: what it refuses is not drawn. Nothing is proved of a picture."""
 
@@ -37,12 +39,25 @@ class Stopped(Exception):
     """What can't be drawn, in a line."""
 
 
-def inputs(text: str) -> Simplex:
-    """The input simplex that a text such as p0=0,p2=1 is."""
-    pairs = [it.strip().split("=") for it in text.split(",")]
-    if not all(len(it) == 2 and it[0][:1] == "p" and it[0][1:].isdigit() and it[1].isdigit() for it in pairs):
+def inputs(text: str) -> List[Tuple[int, str]]:
+    """The processes with their inputs that a text such as p0=0,p2=1 or p0=lo,p2=hi names."""
+    # a name may have a comma, before which no process stands
+    pairs = [INPUT.fullmatch(it.strip()) for it in re.split(r",(?= *p\d+=)", text)]
+    if not all(pairs):
         raise argparse.ArgumentTypeError(f"{text!r} is not like p0=0,p1=1")
-    return tuple(sorted((int(process[1:]), int(value)) for process, value in pairs))
+    return [(int(it[1]), it[2]) for it in pairs if it]
+
+
+def simplex_of(listed: Optional[List[Tuple[int, str]]], task: Task) -> Optional[Simplex]:
+    """The input simplex of processes and inputs, which are told by number or by name. Raises Stopped for a name that no input has."""
+    if listed is None:
+        return None
+    numbers = {name: number for number, name in task.names.inputs}
+    for process, value in listed:
+        if value not in numbers and not NUMBER.fullmatch(value):
+            known = f": the inputs are {', '.join(numbers)}" if numbers else ", and the inputs of the task have no names"
+            raise Stopped(f"--input: p{process}={value} is no input{known}")
+    return tuple(sorted((process, numbers[value] if value in numbers else int(value)) for process, value in listed))
 
 
 def number(text: str) -> int:
@@ -66,7 +81,7 @@ def words(prog: str = "") -> argparse.ArgumentParser:
     found.add_argument("report", metavar="REPORT", nargs="?", help="a report or an obstruction that `wfcheck` wrote")
     found.add_argument("--rounds", type=number, metavar="R", help="rounds of the complex; with a report it has to be about as many")
     found.add_argument("--outputs", action="store_true", help="draw the output complex, and light what --input allows")
-    found.add_argument("--input", type=inputs, metavar="p0=0,..", help="draw the input facets with these inputs alone")
+    found.add_argument("--input", type=inputs, metavar="p0=0,..", help="draw the input facets with these inputs alone, by numbers or names")
     found.add_argument("--all", action="store_true", help="draw all input facets, not only those that a refutation or an obstruction needs")
     found.add_argument("--faces", action="store_true", help="draw executions of at most two processes alone")
     found.add_argument("--seed", type=number, default=1, metavar="N", help="of an obstruction: which values the points have by chance")
@@ -86,14 +101,15 @@ def accepted(task: Task, text: str, rounds: Optional[int], name: str) -> None:
 
 def picture(task: Task, text: Optional[str], asked: argparse.Namespace) -> Picture:
     """The picture of a task, or of a report or an obstruction, once the program accepted it. Raises Error, TooLarge and Stopped."""
-    choice = Choice(asked.input, asked.faces, asked.all)
+    wanted = simplex_of(asked.input, task)
+    choice = Choice(wanted, asked.faces, asked.all)
     if text is None:
         try:
             run(["views", "--rounds", 0], task.text)
         except Refused as refused:
             raise Stopped(f"wfcheck refuses {asked.task}: {refused}") from refused
         if asked.outputs:
-            return outputs(task, asked.input)
+            return outputs(task, wanted)
         if asked.rounds is None:
             raise Stopped("--rounds R says after how many rounds, or --outputs asks for the outputs")
         return of_complex(task, asked.rounds, choice)

@@ -111,13 +111,20 @@ def of_inputs(rules: Rules, chosen: Any) -> Side:
     return words, data
 
 
+def tuple_by_names(values: Sequence[int], names: Names) -> str:
+    """A tuple as a list has it: by numbers with spaces, or by names in brackets."""
+    if not names.values:
+        return " ".join(map(str, values))
+    return f"({', '.join(map(names.value, values))})"
+
+
 def of_weights(made: Complex, weights: Weights, text: str) -> Side:
     """The tuples that count, the count, and a button that draws other values."""
     numbers = {it: number for number, it in enumerate(made.rules.simplices)}
     groups: Dict[Any, List[str]] = {}
     for (simplex, values), weight in weights.tuples.items():
-        groups.setdefault((simplex, weight), []).append(" ".join(map(str, values)))
-    entries = [f"<li><span>{escape(simplex_text(simplex))}, weight {weight}</span><div>{escape(', '.join(told))}</div></li>"
+        groups.setdefault((simplex, weight), []).append(tuple_by_names(values, made.rules.names))
+    entries = [f"<li><span>{escape(simplex_text(simplex, made.rules.names))}, weight {weight}</span><div>{escape(', '.join(told))}</div></li>"
                for (simplex, weight), told in groups.items()]
     words = ["<p>Each point has any value. An execution counts with its sign and the weight of its tuple.</p>",
              '<div class="tools"><button type="button" id="draw">Other values</button>',
