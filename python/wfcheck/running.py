@@ -12,6 +12,9 @@ TOP = pathlib.Path(__file__).resolve().parent.parent.parent
 VARIABLE, NAME = "WFCHECK", "wfcheck"
 # where `make build` leaves the program, and where `make install` puts it beside share/wfcheck
 PLACES = [TOP / "bin" / NAME, *([TOP.parent.parent / "bin" / NAME] if TOP.parts[-2:] == ("share", NAME) else [])]
+# where a wheel puts it that has it: ENV/bin, if the module is in ENV/lib/pythonX.Y/site-packages
+PACKAGES = pathlib.Path(__file__).resolve().parent.parent
+BESIDE = PACKAGES.parents[2] / "bin" / NAME if PACKAGES.name in ("site-packages", "dist-packages") and len(PACKAGES.parents) > 2 else None
 RELEASED = TOP / "release" / NAME
 # a line of PROVENANCE that names a program's bytes
 SHA = r"(?m)^([0-9a-f]{64}) [ *](\S+)$"
@@ -61,7 +64,7 @@ class Ran(NamedTuple):
 
 def program() -> pathlib.Path:
     """The file of the program, which is the first of these: what the variable WFCHECK names; bin/wfcheck of this repository or installation;
-    release/wfcheck of this repository; `wfcheck` on the path.
+    release/wfcheck of this repository; the one that came in a wheel with the module; `wfcheck` on the path.
 
     Raises NoProgram if there is none, and says what to do."""
     if named := os.environ.get(VARIABLE):
@@ -71,6 +74,8 @@ def program() -> pathlib.Path:
             return built
     if RELEASED.is_file():
         return released(RELEASED)
+    if BESIDE and BESIDE.is_file():
+        return judged(BESIDE, f"{BESIDE} is beside the module")
     if found := shutil.which(NAME):
         return judged(pathlib.Path(found).absolute(), f"{found} is the first {NAME} on the path")
     raise NoProgram(f"there is no program {NAME}: {TO_DO}")
