@@ -3,8 +3,6 @@ import functools
 import os
 import pathlib
 import re
-import shutil
-import subprocess
 import sys
 from typing import NamedTuple, Optional, Sequence, Union
 
@@ -76,6 +74,7 @@ def program() -> pathlib.Path:
         return released(RELEASED)
     if BESIDE and BESIDE.is_file():
         return judged(BESIDE, f"{BESIDE} is beside the module")
+    import shutil
     if found := shutil.which(NAME):
         return judged(pathlib.Path(found).absolute(), f"{found} is the first {NAME} on the path")
     raise NoProgram(f"there is no program {NAME}: {TO_DO}")
@@ -84,6 +83,7 @@ def program() -> pathlib.Path:
 @functools.lru_cache(maxsize=None)
 def judged(path: pathlib.Path, why: str) -> pathlib.Path:
     """A file that has to be the program, by what it says of itself."""
+    import subprocess
     if not path.is_file():
         raise NoProgram(f"{why}, which is no file: {TO_DO}")
     try:
@@ -124,6 +124,7 @@ def run(words: Sequence[Word], given: str, seconds: Optional[float] = None) -> R
 
     Raises Refused with the number and the words of a refusal, NoAnswer if the program ends without an answer, and ValueError if a number
     is negative."""
+    import subprocess
     for word in words:
         if isinstance(word, int) and word < 0:
             raise ValueError(f"{word} is negative: rounds and workers are not")

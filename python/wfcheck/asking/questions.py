@@ -7,7 +7,6 @@ import pathlib
 import re
 import shutil
 import signal
-import subprocess
 from typing import Any, Callable, Dict, List, NamedTuple, Optional, Sequence, Tuple, TypeVar
 
 from .. import files
@@ -195,22 +194,29 @@ class Attempt:
             self.tell(SEARCH, f"has no refutation: {ended.why()}")
         return ended.status == 1
 
-    def by_fewer_rounds(self) -> Optional[Answer]:
-        """A map after fewer rounds, lifted to these. The search looks for one in a short share of the time."""
+    def fewer_rounds_at_once(self) -> Optional[Answer]:
+        """A map after fewer rounds, lifted to these, if the search has one in a moment after each of them."""
+        return self.by_fewer_rounds(at_once=True)
+
+    def by_fewer_rounds(self, at_once: bool = False) -> Optional[Answer]:
+        """A map after fewer rounds, lifted to these. The search looks for one in a short share of the time, or in a moment."""
         clock = Clock(self.clock.seconds * SHARE)
         for rounds in range(self.question.rounds):
             report = self.file(f"after-{rounds}")
-            ended = self.scope.wfcheck(["solve", "--rounds", rounds, "--workers", 1, "--verdict"], clock, self.question.task, report)
-            if ended.status == 0:
+            report.unlink(missing_ok=True)
+            search = self.scope.at_once if at_once else self.scope.wfcheck
+            ended = search(["solve", "--rounds", rounds, "--workers", 1, "--verdict"], clock, self.question.task, report)
+            if ended and ended.status == 0:
                 self.tell(f"the search after {rounds} {'round' if rounds == 1 else 'rounds'}", f"says map in {ended.taken:.2f} s")
                 return self.lifted(report, ended.taken)
-            if ended.status != 1:
+            if not ended or ended.status != 1:
                 return None
         return None
 
     def lifted(self, report: pathlib.Path, taken: float) -> Optional[Answer]:
         """The map of a report of fewer rounds, for these rounds."""
         lifted = self.file("lifted")
+        lifted.unlink(missing_ok=True)
         ended = self.wfcheck(["lift", *self.question.about], report, lifted)
         say(f"    wfcheck lift: {ended.why() if ended.status else f'a map for {self.question.rounds} rounds'} ({ended.taken:.2f} s)")
         if ended.status:
@@ -248,6 +254,7 @@ class Attempt:
         """A solver's answer about the formula that is written."""
         names = {name: str(self.file(kind)) for name, kind in PLACES.items()}
         begun = self.clock.taken()
+        import subprocess
         with open(self.file("said"), "xb") as said:
             command = [word.format(**names) for word in split(words)]
             status = self.scope.run(command, self.clock, stdin=subprocess.DEVNULL, stdout=said, stderr=said)

@@ -10,12 +10,11 @@ import pathlib
 import resource
 import select
 import signal
-import subprocess
 import sys
 import tempfile
 import threading
 import time
-from typing import Any, Callable, Dict, Iterator, List, NamedTuple, Optional, Sequence, Set, Union
+from typing import Any, Callable, Dict, Iterator, List, NamedTuple, Optional, Protocol, Sequence, Set, Union
 
 from ..running import TOP, program
 
@@ -23,6 +22,7 @@ TASKS = TOP / "gallery/tasks"
 # a file that a program reads, and a call that is made again and again while it runs
 Given = Union[str, pathlib.Path]
 Look = Optional[Callable[[], None]]
+STREAMS = "stdin", "stdout", "stderr"
 # how many bytes are read of what a program says
 TOLD = 1 << 20
 # a program that one of these ended was most likely ended with all of this run, which then gets the signal within a second
@@ -171,12 +171,10 @@ class Child:
     def __init__(self, words: Sequence[Any], scope: Scope, how: Dict[str, Any], is_short: bool) -> None:
         self.scope = scope
         # a call before a program begins takes longer than many programs
-        before = None if is_short else limited(scope.limits)
+        begin = spawned if is_short else begun
         with OWN_LOCK:
-            self.process = subprocess.Popen(words, start_new_session=True, preexec_fn=before, **how)
+            self.process = begin(words, scope.limits, how)
             OWN.add(self.process.pid)
-        if is_short:
-            shorten(self.process.pid, scope.limits)
 
     def wait(self, clock: Clock, look: Look = None) -> int:
         """Waits for the end and returns the status, and calls `look` again and again until then. Raises Late or Stopped if that comes
@@ -224,6 +222,46 @@ class Child:
 def not_waiting(path: str, flags: int) -> int:
     """Opens a file, without waiting where it is a pipe."""
     return os.open(path, flags | os.O_NONBLOCK, 0o666)
+
+
+class Process(Protocol):
+    """A program that was started."""
+    pid: int
+
+    def wait(self) -> int:
+        """The status with which it ends, or the negative number of the signal that ended it."""
+
+
+class Spawned:
+    """A program that was started by a call that doesn't copy this process."""
+
+    def __init__(self, pid: int) -> None:
+        self.pid = pid
+
+    def wait(self) -> int:
+        """Waits for its end, and returns its status."""
+        return os.waitstatus_to_exitcode(os.waitpid(self.pid, 0)[1])
+
+
+def begun(words: Sequence[Any], limits: Limits, how: Dict[str, Any]) -> Process:
+    """Starts a program, whose limits are set before it begins."""
+    import subprocess
+    return subprocess.Popen(words, start_new_session=True, preexec_fn=limited(limits), **how)
+
+
+def spawned(words: Sequence[str], limits: Limits, how: Dict[str, Any]) -> Process:
+    """Starts a program that has a moment to end. Its limits are set as soon as it has begun."""
+    places = [(os.POSIX_SPAWN_DUP2, how[name].fileno(), number) for number, name in enumerate(STREAMS)]
+    # where a standard stream is closed, one of these files may have its number
+    if min(number for _, number, _ in places) < len(STREAMS):
+        return begun(words, limits, how)
+    try:
+        # Python ignores these two signals, and a program doesn't
+        pid = os.posix_spawn(words[0], words, os.environ, file_actions=places, setsid=True, setsigdef=(signal.SIGPIPE, signal.SIGXFSZ))
+    except NotImplementedError:
+        return begun(words, limits, how)
+    shorten(pid, limits)
+    return Spawned(pid)
 
 
 def end_strangers() -> None:

@@ -11,7 +11,7 @@ import re
 import signal
 import sys
 import tempfile
-from typing import Dict, List, Optional, Tuple
+from typing import Callable, Dict, List, Optional, Tuple
 
 from .. import files
 from ..running import VARIABLE, NoProgram, linter, program
@@ -366,10 +366,11 @@ def decided(words: argparse.Namespace, rounds: int, room: Room, clock: Clock) ->
     with room.attempt() as made:
         scope = Scope(words.limits)
         attempt = Attempt(Question(words.task, rounds), made, scope, clock)
-        ways = [functools.partial(by_hints, attempt, words), attempt.map_at_once, functools.partial(by_fewer, attempt, words), attempt.none_at_once,
-                functools.partial(by_all, attempt, words)]
-        names = ["the hint", SEARCH, "the search on fewer", SEARCH, "the question"]
-        for name, way in zip(names, ways):
+        ways: List[Tuple[str, Callable[[], Optional[Answer]]]] = [
+            ("the hint", functools.partial(by_hints, attempt, words)), (SEARCH, attempt.map_at_once),
+            (FEWER_ROUNDS, functools.partial(fewer_rounds_at_once, attempt, words)), ("the search on fewer", functools.partial(by_fewer, attempt, words)),
+            (SEARCH, attempt.none_at_once), ("the question", functools.partial(by_all, attempt, words))]
+        for name, way in ways:
             if answer := questions.answered(name, way):
                 return kept(words, answer)
         return None, None
@@ -383,6 +384,17 @@ def by_hints(attempt: Attempt, words: argparse.Namespace) -> Optional[Answer]:
     return hints.by_hints(attempt, words.hint)
 
 
+def may_have_fewer_rounds(attempt: Attempt, words: argparse.Namespace) -> bool:
+    """Whether fewer rounds may have a map: they were not asked about, and the search didn't say that there is none after these."""
+    rounds = attempt.question.rounds
+    return rounds > 0 and rounds == words.rounds[0] and not attempt.is_none
+
+
+def fewer_rounds_at_once(attempt: Attempt, words: argparse.Namespace) -> Optional[Answer]:
+    """A map after fewer rounds that the search finds in a moment, lifted to these."""
+    return attempt.fewer_rounds_at_once() if may_have_fewer_rounds(attempt, words) else None
+
+
 def by_fewer(attempt: Attempt, words: argparse.Namespace) -> Optional[Answer]:
     """The answer that there is no map for some of the processes."""
     if words.no_restrict:
@@ -393,9 +405,9 @@ def by_fewer(attempt: Attempt, words: argparse.Namespace) -> Optional[Answer]:
 
 def by_all(attempt: Attempt, words: argparse.Namespace) -> Optional[Answer]:
     """The first answer of those that are asked side by side."""
-    rounds, solver = attempt.question.rounds, words.chosen()
-    those = {SEARCH: attempt.by_search}
-    if rounds and rounds == words.rounds[0] and not attempt.is_none:
+    solver = words.chosen()
+    those: Dict[str, Callable[[], Optional[Answer]]] = {SEARCH: attempt.by_search}
+    if may_have_fewer_rounds(attempt, words):
         those[FEWER_ROUNDS] = attempt.by_fewer_rounds
     if solver:
         those[split(solver)[0]] = functools.partial(attempt.by_solver, solver, words.clauses)
