@@ -40,7 +40,9 @@ class WithoutProgram(Case):
         (self.folder / "consensus-2.json").write_text("mine")
         self.assertEqual(self.python(*door, "consensus-2"), (2, "wfcheck-task: consensus-2.json is there and says something else: it is left as it is\n"))
         self.assertEqual((self.folder / "consensus-2.json").read_text(), "mine")
-        self.assertEqual(self.python(*door, "consensus-2", "--folder", "nowhere"), (2, "wfcheck-task: nowhere/consensus-2.json: No such file or directory\n"))
+        self.assertEqual(self.python(*door, "consensus-2", "--folder", "new/one"), (0, "consensus-2.json\n"))
+        self.assertEqual((self.folder / "new/one/consensus-2.json").read_text(), known("consensus-2").text)
+        self.assertEqual(self.python(*door, "consensus-2", "--folder", "consensus-2.json/one"), (2, "wfcheck-task: consensus-2.json/one: Not a directory\n"))
 
     def test_task_lists_all(self):
         status, told = self.python("-m", "wfcheck", "task", "--list")
@@ -76,6 +78,15 @@ class WithoutProgram(Case):
         status, told = self.python("-m", "wfcheck")
         self.assertEqual((status, told.split(" ")[0]), (2, "usage:"))
         self.assertEqual(self.python("-m", "wfcheck", "--help"), (0, told))
+
+    def test_an_exception_has_a_status_of_its_own(self):
+        """By each door of each command: Python's own status would mean an answer or a slip."""
+        (self.folder / "json.py").write_text("raise RuntimeError('this module is broken')\n")
+        path = f"{self.folder}:{PYTHON}"
+        for command in ("lint", "task", "draw", "names", "rules"):
+            for door in (["-m", "wfcheck", command], ["-c", DOOR.format(command)]):
+                status, said = self.python(*door, "x.json", "y", PYTHONPATH=path)
+                self.assertEqual((status, "this module is broken" in said, "Traceback" in said), (3, True, False), (door, said))
 
     def test_an_exception_is_no_answer(self):
         (self.folder / "tempfile.py").write_text("raise RuntimeError('this module is broken')\n")

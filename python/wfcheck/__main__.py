@@ -20,6 +20,16 @@ USAGE = """usage: python3 -m wfcheck ask TASK ROUNDS [options]
 
 def main(words: List[str]) -> int:
     """Does what the words say, and returns the status."""
+    try:
+        return done(words)
+    except Exception as error:
+        # a status of Python's own would mean an answer
+        print(f"{words[0] if words else 'wfcheck'}: {type(error).__name__}: {error}", file=sys.stderr)
+        return UNDECIDED
+
+
+def done(words: List[str]) -> int:
+    """Does what the words say, and returns the status."""
     if words[:1] == ["restrict"]:
         return restricted(words[1:])
     if words[:1] == ["draw"]:
@@ -41,13 +51,8 @@ def main(words: List[str]) -> int:
         signal.signal(signal.SIGPIPE, signal.SIG_DFL)
         print(USAGE, file=sys.stdout if words[:1] == ["--help"] else sys.stderr)
         return 0 if words[:1] == ["--help"] else REFUSED
-    try:
-        from .asking import words as asked
-        return asked.main(words[1:], ["env", f"PYTHONPATH={FOLDER}", sys.executable, "-m", "wfcheck", "ask"])
-    except Exception as error:
-        # a status of Python's own would mean an answer
-        print(f"ask: {type(error).__name__}: {error}", file=sys.stderr)
-        return UNDECIDED
+    from .asking import words as asked
+    return asked.main(words[1:], ["env", f"PYTHONPATH={FOLDER}", sys.executable, "-m", "wfcheck", "ask"])
 
 
 def numbers(text: str) -> List[int]:
