@@ -3,8 +3,8 @@
 It is kept in the user's cache folder, below `wfcheck`, so that a command doesn't compile the module each time. A folder counts if it is
 the user's own, and nobody else may write into it: whoever can write bytecode decides what runs. Where Python is told to keep none, or none
 can be kept, the module is compiled in memory."""
+import gc
 import importlib.machinery
-import importlib.util
 import os
 import stat
 import sys
@@ -47,8 +47,11 @@ class Finder:
 
 
 def keep() -> None:
-    """Has the module's bytecode kept in the user's cache folder, if it stands nowhere else and may be kept."""
-    if sys.flags.dont_write_bytecode or os.path.isfile(importlib.util.cache_from_source(__file__)):
+    """Has the module's bytecode kept in the user's cache folder, if it stands nowhere else and may be kept. Until the command calls `gc.enable`,
+    no garbage is looked for: importing leaves next to none."""
+    gc.disable()
+    own = __spec__.cached if __spec__ else None
+    if sys.flags.dont_write_bytecode or own and os.path.isfile(own):
         return
     folder = cache_folder()
     if folder:

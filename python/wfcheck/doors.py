@@ -1,5 +1,6 @@
 """The commands that come with the module: `wfcheck-ask`, `wfcheck-draw`, `wfcheck-lint`, `wfcheck-names`, `wfcheck-rules` and
 `wfcheck-task`. tools/ask, tools/lint.py and tools/tasks.py are three of them in the repository."""
+import gc
 import os
 import sys
 from typing import Callable
@@ -9,6 +10,7 @@ UNDECIDED = 3
 
 def guarded(name: str, command: Callable[[], int]) -> int:
     """Runs a command, and returns its status. Python's own status for an exception would mean an answer."""
+    gc.enable()
     try:
         return command()
     except Exception as error:
@@ -20,6 +22,7 @@ def ask() -> int:
     """`wfcheck-ask`: asks a question that may be too hard for the search alone. Returns the status."""
     def command() -> int:
         """Asks."""
+        gc.disable()
         from .asking import words
         return words.main(sys.argv[1:], [itself()], "wfcheck-ask")
     return guarded("ask", command)

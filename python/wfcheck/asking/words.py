@@ -4,6 +4,7 @@ from __future__ import annotations
 import argparse
 import contextlib
 import functools
+import gc
 import io
 import os
 import pathlib
@@ -203,6 +204,7 @@ def refusal(said: str, task: pathlib.Path) -> str:
 def main(listed: List[str], command: List[str], name: str = "ask") -> int:
     """Asks what a list of words says, by a command with a name, and returns the status."""
     words = asked(listed, command, name)
+    gc.enable()
     if isinstance(sys.stdout, io.TextIOWrapper):
         sys.stdout.reconfigure(errors="backslashreplace")
     for end in runs.ENDING:
