@@ -119,3 +119,19 @@ class Asking(Case):
         env = {**os.environ, "SLURM_ARRAY_TASK_ID": "1"}
         run = subprocess.run(["sh", self.folder / "job.sh"], capture_output=True, text=True, cwd=self.folder, env=env, check=False)
         self.assertEqual((run.returncode, "none in 16 of the 16 branches" in run.stdout), (0, True))
+
+
+class Words(Case):
+    """The words of `ask`."""
+
+    def test_words_without_options_need_no_parser(self):
+        """They come to the same with a parser, and an option comes to what it says."""
+        from wfcheck.asking.asked import Words as Asked
+        from wfcheck.asking.asked import parsed
+        from wfcheck.asking.parsing import parser
+        plain, there = parsed(["a", "b", "0..3"], "ask")[1], Asked()
+        parser("ask").parse_intermixed_args(["a", "b", "0..3"], there)
+        *there.tasks, there.rounds = there.given
+        self.assertEqual({**vars(plain), "hint": [*plain.hint]}, vars(there))
+        some = parsed(["a", "--hint", "x", "0..3", "--seconds", "2", "--hint", "y", "--show"], "ask")[1]
+        self.assertEqual((some.tasks, some.rounds, [*map(str, some.hint)], some.seconds, some.show), (["a"], "0..3", ["x", "y"], 2.0, True))

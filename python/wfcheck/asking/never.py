@@ -2,13 +2,13 @@
 none without, and `wfcheck verify` has to accept it. If none is found, that says nothing about the task."""
 from __future__ import annotations
 
-import argparse
 import pathlib
 import re
 from typing import List
 
 from ..nodes import nodes_in_words
 from . import table
+from .asked import Words
 from .notes import Room, keep
 from .questions import answered
 from .runs import Clock, Ended, Late, Refused, Scope, say
@@ -21,7 +21,7 @@ NONE_FOUND = 1
 NODE = r"(?m)^(case|split|cover|balance) (\d+)"
 
 
-def is_never(words: argparse.Namespace) -> bool:
+def is_never(words: Words) -> bool:
     """Whether an obstruction of the task is found and accepted. It has as much time as a number of rounds."""
     # the folder that keeps may be full, and then what is found is told all the same
     with Room(None) as room, room.attempt() as made:
@@ -36,12 +36,12 @@ def is_never(words: argparse.Namespace) -> bool:
     return bool(found)
 
 
-def note(words: argparse.Namespace, file: pathlib.Path, clock: Clock) -> None:
+def note(words: Words, file: pathlib.Path, clock: Clock) -> None:
     """Notes an obstruction that was accepted in the table."""
     words.table.add(words.task, table.EVERY, "never", words.table.of_file(file), clock.taken())
 
 
-def is_kept(words: argparse.Namespace) -> bool:
+def is_kept(words: Words) -> bool:
     """Whether the folder of --tally or --recheck has an obstruction of the task, and it is accepted."""
     file = words.keep / f"{words.task.stem}.obstruction"
     if not file.is_file():
@@ -54,7 +54,7 @@ def is_kept(words: argparse.Namespace) -> bool:
     return bool(accepted)
 
 
-def is_found(words: argparse.Namespace, file: pathlib.Path, scope: Scope, clock: Clock) -> bool:
+def is_found(words: Words, file: pathlib.Path, scope: Scope, clock: Clock) -> bool:
     """Whether an obstruction is found and accepted: without covers, or else with one."""
     ended = None
     for options in OPTIONS:
@@ -63,7 +63,7 @@ def is_found(words: argparse.Namespace, file: pathlib.Path, scope: Scope, clock:
     return ended is not None and ended.status == 0 and is_accepted(words, file, scope, clock)
 
 
-def sought(words: argparse.Namespace, file: pathlib.Path, scope: Scope, clock: Clock, options: List[str]) -> Ended:
+def sought(words: Words, file: pathlib.Path, scope: Scope, clock: Clock, options: List[str]) -> Ended:
     """How the program ended that looked for an obstruction with these options. Nothing is said if it refuses a task with a first block."""
     asked = ["obstruction", *options]
     head = [] if options else [f"{words.task.stem} after every number of rounds:"]
@@ -81,7 +81,7 @@ def sought(words: argparse.Namespace, file: pathlib.Path, scope: Scope, clock: C
     return ended
 
 
-def is_accepted(words: argparse.Namespace, file: pathlib.Path, scope: Scope, clock: Clock) -> bool:
+def is_accepted(words: Words, file: pathlib.Path, scope: Scope, clock: Clock) -> bool:
     """Whether `verify` accepts an obstruction of the task; then there is no map, and the last line says so."""
     try:
         ended = scope.at_once_or_later(["verify", f"--task={words.task}"], clock, file)

@@ -1,7 +1,6 @@
 """What `ask --show` prints: a map as rules, or as points if it has no few rules, and else the argument why there is no map."""
 from __future__ import annotations
 
-import argparse
 from typing import List
 
 from ..answers import Map
@@ -11,13 +10,14 @@ from ..questions import answer_of, explain
 from ..ruling.telling import rules
 from ..running import Error, NoAnswer, NoFile
 from ..tasks import Task, names_beside, read
+from .asked import Words
 
 # how many lines are shown, and how many seconds rules are looked for
 MOST, SECONDS = 200, 10
 REPORTS, OBSTRUCTION = (".report", ".map", ".lifted"), ".obstruction"
 
 
-def shown(words: argparse.Namespace) -> List[str]:
+def shown(words: Words) -> List[str]:
     """The lines that tell what was accepted last, with the names of the task. One line says why there are none."""
     kind, data = words.accepted
     if kind not in (*REPORTS, OBSTRUCTION):
@@ -31,7 +31,7 @@ def shown(words: argparse.Namespace) -> List[str]:
     return lines if len(lines) <= MOST else [*lines[:MOST], f".. and {len(lines) - MOST:,} more lines"]
 
 
-def named(words: argparse.Namespace) -> Task:
+def named(words: Words) -> Task:
     """The task, with the names that stand beside its file."""
     task = read(words.task)
     try:

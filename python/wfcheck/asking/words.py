@@ -1,7 +1,6 @@
 """The words of tools/ask, and the question as a whole: the search and a solver are asked side by side."""
 from __future__ import annotations
 
-import argparse
 import contextlib
 import functools
 import gc
@@ -17,8 +16,8 @@ from typing import Callable, Dict, List, Optional, Tuple
 from .. import files
 from ..running import VARIABLE, NoProgram, linter, program
 from ..running import refusal as refusal_of
-from . import __doc__ as about
 from . import never, questions, runs, table
+from .asked import Door, Words, parsed
 from .given import Given, in_line
 from .notes import Notes, Room, keep
 from .questions import FEWER_ROUNDS, SEARCH, SEARCH_ALONE, Answer, Attempt, Question, first, split
@@ -26,44 +25,10 @@ from .runs import Clock, Limits, Refused, Scope, Stopped, Undecided, say
 from .summary import STATUS, refused_in_words, summary
 
 REFUSED, CUT_OFF = 2, 130
-# the engines for which there is a script of an array
-ENGINES = ["slurm", "pbs", "sge", "lsf", "kubernetes"]
 GB = 1 << 30
 
 
-def parsed(listed: List[str], name: str) -> Tuple[argparse.ArgumentParser, argparse.Namespace]:
-    """The words as they stand."""
-    words = argparse.ArgumentParser(
-        description=about, formatter_class=argparse.RawDescriptionHelpFormatter, usage=f"{name} TASK .. ROUNDS [options]", prog=name)
-    words.add_argument("given", nargs="*", metavar="TASK .. ROUNDS", help=argparse.SUPPRESS)
-    words.add_argument("--solver")
-    words.add_argument("--seconds", type=float, default=60)
-    words.add_argument("--clauses", type=int, default=20_000_000)
-    words.add_argument("--memory", type=float, default=4)
-    words.add_argument("--disk", type=float, default=4)
-    words.add_argument("--keep", type=pathlib.Path)
-    words.add_argument("--show", action="store_true")
-    words.add_argument("--no-obstruction", action="store_true")
-    words.add_argument("--no-restrict", action="store_true")
-    words.add_argument("--hint", type=pathlib.Path, action="append", default=[])
-    words.add_argument("--jobs", type=int)
-    words.add_argument("--table", type=pathlib.Path)
-    words.add_argument("--split")
-    chosen = words.add_mutually_exclusive_group()
-    chosen.add_argument("--branch", type=int)
-    chosen.add_argument("--share")
-    chosen.add_argument("--array", choices=ENGINES)
-    chosen.add_argument("--tally", type=pathlib.Path)
-    chosen.add_argument("--recheck", type=pathlib.Path)
-    # options may stand between tasks and rounds
-    found = words.parse_intermixed_args(listed)
-    if len(found.given) < 2:
-        words.error(f"the following arguments are required: {', '.join(['task', 'rounds'][len(found.given):])}")
-    *found.tasks, found.rounds = found.given
-    return words, found
-
-
-def asked(listed: List[str], command: List[str], name: str) -> argparse.Namespace:
+def asked(listed: List[str], command: List[str], name: str) -> Words:
     """The words, the files of the tasks, and the rounds in turn. The command is that by which a job asks again."""
     words, found = parsed(listed, name)
     try:
@@ -93,7 +58,7 @@ def asked(listed: List[str], command: List[str], name: str) -> argparse.Namespac
     return found
 
 
-def rounds_of(words: argparse.ArgumentParser, text: str) -> range:
+def rounds_of(words: Door, text: str) -> range:
     """The numbers of rounds that a word names."""
     found = re.fullmatch(r"(\d{1,9})(?:\.\.(\d{1,9}))?", text, re.A)
     first_rounds, last = (int(found[1]), int(found[2] or found[1])) if found else (1, 0)
@@ -104,7 +69,7 @@ def rounds_of(words: argparse.ArgumentParser, text: str) -> range:
     return range(first_rounds, last + 1)
 
 
-def file_of(words: argparse.ArgumentParser, name: str) -> pathlib.Path:
+def file_of(words: Door, name: str) -> pathlib.Path:
     """The file of a task, by its path or by its name in the gallery."""
     path, known = pathlib.Path(name), runs.TASKS / f"{name.removesuffix('.json')}.json"
     if path.is_file() or known.is_file():
@@ -133,7 +98,7 @@ def named_program() -> List[str]:
     return ["env", f"{VARIABLE}={program()}"] if os.environ.get(VARIABLE) else []
 
 
-def judge_numbers(words: argparse.ArgumentParser, found: argparse.Namespace) -> None:
+def judge_numbers(words: Door, found: Words) -> None:
     """Refuses numbers that mean nothing, and finds out whether branches are asked."""
     share = re.fullmatch(r"(\d+)/(\d+)", found.share, re.A) if found.share else None
     if found.share and not (share and int(share[1]) < int(share[2])):
@@ -155,7 +120,7 @@ def judge_numbers(words: argparse.ArgumentParser, found: argparse.Namespace) -> 
     found.limits = Limits(int(found.memory * GB), int(found.disk * GB))
 
 
-def judge_table(words: argparse.ArgumentParser, found: argparse.Namespace) -> None:
+def judge_table(words: Door, found: Words) -> None:
     """Refuses a table that is a file which is read: lines would be appended to it."""
     with contextlib.suppress(OSError):
         for file in [*found.files, *found.hint] if found.table.file else []:
@@ -163,7 +128,7 @@ def judge_table(words: argparse.ArgumentParser, found: argparse.Namespace) -> No
                 words.error(f"--table: {in_line(str(found.table.file))} is a file that is read, and lines would be appended to it")
 
 
-def judge_split(words: argparse.ArgumentParser, found: argparse.Namespace) -> None:
+def judge_split(words: Door, found: Words) -> None:
     """Refuses cases of what is not one question."""
     if found.split is None:
         return
@@ -173,7 +138,7 @@ def judge_split(words: argparse.ArgumentParser, found: argparse.Namespace) -> No
         words.error("--split is about the whole question or one branch, and not about --share, --array, --tally or --recheck")
 
 
-def judge_folder(words: argparse.ArgumentParser, found: argparse.Namespace) -> None:
+def judge_folder(words: Door, found: Words) -> None:
     """Finds the folder that keeps, and makes it where it may be new."""
     if found.looks:
         if found.keep:
@@ -222,9 +187,9 @@ def main(listed: List[str], command: List[str], name: str = "ask") -> int:
     return next((it for it in (CUT_OFF, REFUSED, STATUS[None]) if it in found), 0)
 
 
-def of_task(words: argparse.Namespace, file: pathlib.Path) -> int:
+def of_task(words: Words, file: pathlib.Path) -> int:
     """Asks about the task of a file, and returns the status."""
-    one = argparse.Namespace(**vars(words))
+    one = Words(**vars(words))
     # the files that are kept, and what was accepted last
     one.kept, one.accepted = [], None
     try:
@@ -244,14 +209,14 @@ def of_task(words: argparse.Namespace, file: pathlib.Path) -> int:
         return no_answer(words, file, "not decided", STATUS[None])
 
 
-def no_answer(words: argparse.Namespace, file: pathlib.Path, said: str, status: int) -> int:
+def no_answer(words: Words, file: pathlib.Path, said: str, status: int) -> int:
     """Says a last line of a task that has no answer, where several are asked about, and returns the status."""
     if len(words.files) > 1:
         say(f"{in_line(file.stem)}: {said}")
     return status
 
 
-def answered(words: argparse.Namespace) -> int:
+def answered(words: Words) -> int:
     """Asks, and returns the status that the answer has."""
     if has_obstruction(words):
         return of_never(words)
@@ -269,7 +234,7 @@ def answered(words: argparse.Namespace) -> int:
     return in_cases(words, str(solver))
 
 
-def solver_of(words: argparse.Namespace) -> Optional[str]:
+def solver_of(words: Words) -> Optional[str]:
     """The command of the solver that is asked; None if it is the search alone."""
     if words.solver == SEARCH_ALONE:
         return None
@@ -278,7 +243,7 @@ def solver_of(words: argparse.Namespace) -> Optional[str]:
     return solvers.command(solver, words.limits, not words.split) if solver else None
 
 
-def in_rounds(words: argparse.Namespace, room: Room) -> int:
+def in_rounds(words: Words, room: Room) -> int:
     """Asks about one number of rounds behind another, up to the first with a map, and returns the status of the last that has an answer. A
     number that is refused ends the run, as each larger one would be; what was accepted before is told."""
     answers: Dict[int, Optional[str]] = {}
@@ -308,7 +273,7 @@ def in_rounds(words: argparse.Namespace, room: Room) -> int:
     return STATUS[answer]
 
 
-def in_cases(words: argparse.Namespace, solver: str) -> int:
+def in_cases(words: Words, solver: str) -> int:
     """Asks about the whole question case by case, and returns the status that the answer has."""
     from . import branches, cases
     rounds, clock, about = words.rounds[0], Clock(words.seconds), branches.listed(words).about
@@ -333,14 +298,14 @@ def in_cases(words: argparse.Namespace, solver: str) -> int:
     return STATUS[word]
 
 
-def has_obstruction(words: argparse.Namespace) -> bool:
+def has_obstruction(words: Words) -> bool:
     """Whether the task has an obstruction that is accepted: one that is found, or where nothing is asked one that is kept."""
     if words.no_obstruction or words.array:
         return False
     return never.is_kept(words) if words.looks else never.is_never(words)
 
 
-def of_never(words: argparse.Namespace) -> int:
+def of_never(words: Words) -> int:
     """The status of a task that has no map after any number of rounds. All its branches are decided then."""
     if not words.by_branch:
         before_last(words)
@@ -348,7 +313,7 @@ def of_never(words: argparse.Namespace) -> int:
     return 0 if words.branch is not None or words.share else STATUS["none"]
 
 
-def before_last(words: argparse.Namespace) -> None:
+def before_last(words: Words) -> None:
     """Says before the last line what was accepted, if that is asked for, where it is kept, or how to keep it, and whether the file has changed."""
     if words.show and words.accepted:
         from . import showing
@@ -362,7 +327,7 @@ def before_last(words: argparse.Namespace) -> None:
     words.given.close()
 
 
-def decided(words: argparse.Namespace, rounds: int, room: Room, clock: Clock) -> Tuple[Optional[str], Optional[table.Certificate]]:
+def decided(words: Words, rounds: int, room: Room, clock: Clock) -> Tuple[Optional[str], Optional[table.Certificate]]:
     """The first answer that is accepted within the limit, and its certificate as a table has it; None for both where nobody has one. The
     program is asked alone for a moment before anything else is started."""
     with room.attempt() as made:
@@ -378,7 +343,7 @@ def decided(words: argparse.Namespace, rounds: int, room: Room, clock: Clock) ->
         return None, None
 
 
-def by_hints(attempt: Attempt, words: argparse.Namespace) -> Optional[Answer]:
+def by_hints(attempt: Attempt, words: Words) -> Optional[Answer]:
     """The answer of a report that is given, if one is."""
     if not words.hint:
         return None
@@ -386,18 +351,18 @@ def by_hints(attempt: Attempt, words: argparse.Namespace) -> Optional[Answer]:
     return hints.by_hints(attempt, words.hint)
 
 
-def may_have_fewer_rounds(attempt: Attempt, words: argparse.Namespace) -> bool:
+def may_have_fewer_rounds(attempt: Attempt, words: Words) -> bool:
     """Whether fewer rounds may have a map: they were not asked about, and the search didn't say that there is none after these."""
     rounds = attempt.question.rounds
     return rounds > 0 and rounds == words.rounds[0] and not attempt.is_none
 
 
-def fewer_rounds_at_once(attempt: Attempt, words: argparse.Namespace) -> Optional[Answer]:
+def fewer_rounds_at_once(attempt: Attempt, words: Words) -> Optional[Answer]:
     """A map after fewer rounds that the search finds in a moment, lifted to these."""
     return attempt.fewer_rounds_at_once() if may_have_fewer_rounds(attempt, words) else None
 
 
-def by_fewer(attempt: Attempt, words: argparse.Namespace) -> Optional[Answer]:
+def by_fewer(attempt: Attempt, words: Words) -> Optional[Answer]:
     """The answer that there is no map for some of the processes."""
     if words.no_restrict:
         return None
@@ -405,7 +370,7 @@ def by_fewer(attempt: Attempt, words: argparse.Namespace) -> Optional[Answer]:
     return fewer.none_of_fewer(attempt, words.with_map)
 
 
-def by_all(attempt: Attempt, words: argparse.Namespace) -> Optional[Answer]:
+def by_all(attempt: Attempt, words: Words) -> Optional[Answer]:
     """The first answer of those that are asked side by side."""
     solver = words.chosen()
     those: Dict[str, Callable[[], Optional[Answer]]] = {SEARCH: attempt.by_search}
@@ -416,12 +381,12 @@ def by_all(attempt: Attempt, words: argparse.Namespace) -> Optional[Answer]:
     return first(attempt.scope, those)
 
 
-def accept(words: argparse.Namespace, certificate: pathlib.Path) -> None:
+def accept(words: Words, certificate: pathlib.Path) -> None:
     """Notes what was accepted last: the kind of its certificate, and if it is to be shown its text."""
     words.accepted = certificate.suffix, certificate.read_bytes() if words.show and certificate.stat().st_size <= files.LONGEST else None
 
 
-def kept(words: argparse.Namespace, answer: Answer) -> Tuple[str, Optional[table.Certificate]]:
+def kept(words: Words, answer: Answer) -> Tuple[str, Optional[table.Certificate]]:
     """An answer whose files are put into the folder, where there is one, and its certificate as a table has it."""
     accept(words, answer.files[0])
     for file in answer.files if words.keep else []:
