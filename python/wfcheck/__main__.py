@@ -70,7 +70,11 @@ def restricted(listed: List[str]) -> int:
     kept = words.parse_args(listed).processes
     signal.signal(signal.SIGPIPE, signal.SIG_DFL)
     try:
-        sys.stdout.write(restrict(Task("task", sys.stdin.read()), kept).text)
+        text = sys.stdin.read()
+        if not text:
+            print("restrict: an empty text: did the command before it fail?", file=sys.stderr)
+            return REFUSED
+        sys.stdout.write(restrict(Task("task", text), kept).text)
     except (NoTask, UnicodeDecodeError):
         print(f"restrict: what is read is no task: {linter()} FILE says where it is wrong", file=sys.stderr)
         return REFUSED
