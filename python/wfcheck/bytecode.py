@@ -50,7 +50,7 @@ def keep() -> None:
     """Has the module's bytecode kept in the user's cache folder, if it stands nowhere else and may be kept. Until the command calls `gc.enable`,
     no garbage is looked for: importing leaves next to none."""
     gc.disable()
-    own = __spec__.cached if __spec__ else None
+    own = getattr(sys.modules[__name__].__spec__, "cached", None)
     if sys.flags.dont_write_bytecode or own and os.path.isfile(own):
         return
     folder = cache_folder()

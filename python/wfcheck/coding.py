@@ -14,7 +14,7 @@ class Codes:
 
     def number(self, given: Any) -> int:
         """The number of something that is listed."""
-        return given if self.is_plain else self.numbers[given]
+        return self.numbers[given] if not self.is_plain else int(given)
 
     def given(self, number: int) -> Any:
         """What has a number."""

@@ -58,7 +58,7 @@ class Task(NamedTuple):
         """The processes, input facets and values in words; of a text that is none of a task, its length."""
         try:
             whole = json.loads(self.text)
-            many = len(facets([tuple(map(tuple, it)) for it in whole["inputs"]]))
+            many = len(facets([tuple((p, v) for p, v in it) for it in whole["inputs"]]))
             values = sorted({value for simplex in whole["outputs"] for _, value in simplex})
             called = [self.names.value(it) for it in values]
             if not self.names.values and len(values) > 2 and values == [*range(values[0], values[-1] + 1)]:

@@ -34,7 +34,7 @@ def parsed(listed: List[str], name: str) -> Tuple[Door, Words]:
     if any(it.startswith("-") for it in listed):
         from .parsing import parser
         # options may stand between tasks and rounds
-        parser(name).parse_intermixed_args(listed, found)
+        vars(found).update(vars(parser(name).parse_intermixed_args(listed)))
     else:
         vars(found).update(DEFAULTS, given=listed)
     if len(found.given) < 2:

@@ -10,8 +10,8 @@ import signal
 from typing import Any, Callable, Dict, List, NamedTuple, Optional, Sequence, Tuple, TypeVar
 
 from .. import files
+from ..files import in_line
 from . import runs
-from .given import in_line
 from .notes import VERDICT
 from .runs import Clock, Given, Late, Look, Refused, Scope, say
 
@@ -204,8 +204,9 @@ class Attempt:
         for rounds in range(self.question.rounds):
             report = self.file(f"after-{rounds}")
             report.unlink(missing_ok=True)
-            search = self.scope.at_once if at_once else self.scope.wfcheck
-            ended = search(["solve", "--rounds", rounds, "--workers", 1, "--verdict"], clock, self.question.task, report)
+            asked = ["solve", "--rounds", rounds, "--workers", 1, "--verdict"]
+            ended = (self.scope.at_once(asked, clock, self.question.task, report) if at_once else
+                     self.scope.wfcheck(asked, clock, self.question.task, report))
             if ended and ended.status == 0:
                 self.tell(f"the search after {rounds} {'round' if rounds == 1 else 'rounds'}", f"says map in {ended.taken:.2f} s")
                 return self.lifted(report, ended.taken)

@@ -257,7 +257,7 @@ def spawned(words: Sequence[str], limits: Limits, how: Dict[str, Any]) -> Proces
         return begun(words, limits, how)
     try:
         # Python ignores these two signals, and a program doesn't
-        pid = os.posix_spawn(words[0], words, os.environ, file_actions=places, setsid=True, setsigdef=(signal.SIGPIPE, signal.SIGXFSZ))
+        pid = os.posix_spawn(words[0], [*words], os.environ, file_actions=places, setsid=True, setsigdef=(signal.SIGPIPE, signal.SIGXFSZ))
     except NotImplementedError:
         return begun(words, limits, how)
     shorten(pid, limits)

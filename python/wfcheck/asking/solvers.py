@@ -79,9 +79,9 @@ def tried(words: List[str], text: str, limits: Limits) -> Optional[int]:
     with tempfile.TemporaryDirectory() as made:
         formula, proof = pathlib.Path(made) / "one.cnf", pathlib.Path(made) / "proof"
         formula.write_text(text)
-        how = {name: subprocess.DEVNULL for name in ("stdin", "stdout", "stderr")}
+        none = subprocess.DEVNULL
         try:
-            return Scope(limits).run([*words, formula, *[proof] * (text == NO_MODEL)], Clock(10), **how)
+            return Scope(limits).run([*words, formula, *[proof] * (text == NO_MODEL)], Clock(10), stdin=none, stdout=none, stderr=none)
         except (Late, OSError):
             return None
 

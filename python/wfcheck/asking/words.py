@@ -14,11 +14,12 @@ import tempfile
 from typing import Callable, Dict, List, Optional, Tuple
 
 from .. import files
+from ..files import in_line
 from ..running import VARIABLE, NoProgram, linter, program
 from ..running import refusal as refusal_of
 from . import never, questions, runs, table
 from .asked import Door, Words, parsed
-from .given import Given, in_line
+from .given import Given
 from .notes import Notes, Room, keep
 from .questions import FEWER_ROUNDS, SEARCH, SEARCH_ALONE, Answer, Attempt, Question, first, split
 from .runs import Clock, Limits, Refused, Scope, Stopped, Undecided, say

@@ -17,7 +17,8 @@ from ..drawing.main import text_of
 from ..questions import values_of
 from ..running import Error, NoAnswer
 from ..tasks import Mistake, read
-from .telling import SECONDS, rules, too_many
+from .search import SECONDS
+from .telling import rules, too_many
 
 MORE, REFUSED, LATE = 1, 2, 3
 
