@@ -27,6 +27,8 @@ from .summary import STATUS, refused_in_words, summary
 
 REFUSED, CUT_OFF = 2, 130
 GB = 1 << 30
+# how many bytes have to be free in a folder in which a run works
+ROOM = 1 << 26
 
 
 def asked(listed: List[str], command: List[str], name: str) -> Words:
@@ -222,7 +224,7 @@ def answered(words: Words) -> int:
     if has_obstruction(words):
         return of_never(words)
     if not words.by_branch and not words.split:
-        with Room(words.keep) as room:
+        with Room(roomy(words.keep)) as room:
             return in_rounds(words, room)
     from . import branches, solvers
     solver = None if words.looks else solver_of(words)
@@ -233,6 +235,14 @@ def answered(words: Words) -> int:
     if words.by_branch:
         return branches.main(words, solver, Clock(words.seconds))
     return in_cases(words, str(solver))
+
+
+def roomy(folder: Optional[pathlib.Path]) -> Optional[pathlib.Path]:
+    """The folder that keeps, if there is room to work in it: then a large file is kept without a copy. None stands for temporary files."""
+    if folder:
+        about = os.statvfs(folder)
+        return folder if about.f_bavail * about.f_frsize >= ROOM else None
+    return None
 
 
 def solver_of(words: Words) -> Optional[str]:
