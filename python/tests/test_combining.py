@@ -26,6 +26,17 @@ class Values(Case):
         with self.assertRaises(wfcheck.Mistake):
             wfcheck.task("mine", 1, [(0,)], lambda start, end: True, values=[["a"]])
 
+    def test_names_of_another_task_go(self):
+        """They go with the task that had them; names that somebody wrote stay, and are warned of."""
+        named = wfcheck.task("mine", 2, [("no", "yes")], agree, values=["no", "yes"])
+        plain = wfcheck.task("mine", 2, [(0, 1)], agree, values=[0, 1])
+        for made in (named, plain, named):
+            self.assertEqual(wfcheck.read(wfcheck.write(made, self.folder)), made)
+        (self.folder / "mine.names.json").write_text('{ "values": {"0": "by hand"} }')
+        with self.assertWarnsRegex(UserWarning, "mine.names.json is there, and the task has no names"):
+            wfcheck.write(plain, self.folder)
+        self.assertEqual(wfcheck.read(self.folder / "mine.json").names.values, ((0, "by hand"),))
+
     def test_the_predicate_gets_what_was_given(self):
         asked = []
         wfcheck.task("mine", 2, [{0: "a", 1: ("b", 1)}], lambda start, end: asked.append((start, end)) or True, values=[frozenset([1])])

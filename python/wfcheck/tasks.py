@@ -115,8 +115,9 @@ def named_file(folder: pathlib.Path, name: str) -> pathlib.Path:
 
 
 def write(made: Task, folder: Union[str, "os.PathLike[str]"] = ".") -> pathlib.Path:
-    """Writes the file of a task into a folder, and returns its path. If the task has names, NAME.names.json beside it gets them. Raises Mistake
-    if its name is none of a file, and NoFile if a file can't be written."""
+    """Writes the file of a task into a folder, and returns its path. If the task has names, NAME.names.json beside it gets them; if it has none,
+    such a file that `write` made of another task is taken away, and one of somebody else is warned of. Raises Mistake if its name is none of
+    a file, and NoFile if a file can't be written."""
     if not isinstance(made, Task) or not isinstance(made.text, str):
         raise TypeError(f"a task is what `task` or `read` returns, and not {made!r}")
     judge_name(made.name)
@@ -127,7 +128,24 @@ def write(made: Task, folder: Union[str, "os.PathLike[str]"] = ".") -> pathlib.P
             file.write_bytes(text.encode("utf-8"))
         except (OSError, ValueError) as error:
             raise NoFile(f"{file} can't be written: {told(error)}") from error
+    if made.names == Names():
+        without_names(named_file(path.parent, made.name))
     return path
+
+
+def without_names(file: pathlib.Path) -> None:
+    """Takes a file of names away that `write` made, or warns of one that somebody else made: a task would be told by names of another one."""
+    try:
+        with files.opened(file) as opened:
+            text = opened.read(LONGEST).decode("utf-8")
+        if read_names(text).text() == text:
+            file.unlink()
+            return
+    except FileNotFoundError:
+        return
+    except (OSError, RecursionError, ValueError):
+        pass
+    warnings.warn(f"{file} is there, and the task has no names: answers about the file of the task are told by those", stacklevel=3)
 
 
 def told(error: Exception) -> str:
