@@ -48,7 +48,7 @@ def asked(listed: List[str], command: List[str], name: str) -> Words:
         words.error("--show is about whole questions, and not about branches")
     if (found.by_branch or found.split) and found.hint:
         words.error("--hint is about whole questions, and not about branches or cases")
-    if missing := next((it for it in found.hint if not it.is_file()), None):
+    if missing := next((it for it in found.hint if not os.path.isfile(it)), None):
         words.error(f"--hint: {missing} is no file")
     judge_table(words, found)
     if (found.by_branch or found.split) and len(found.files) > 1:
@@ -75,8 +75,9 @@ def rounds_of(words: Door, text: str) -> range:
 def file_of(words: Door, name: str) -> pathlib.Path:
     """The file of a task, by its path or by its name in the gallery."""
     path, known = pathlib.Path(name), runs.TASKS / f"{name.removesuffix('.json')}.json"
-    if path.is_file() or known.is_file():
-        return path if path.is_file() else known
+    # a name may be too long for a file
+    if os.path.isfile(path) or os.path.isfile(known):
+        return path if os.path.isfile(path) else known
     meant, names = path.name.removesuffix(".json"), gallery_names()
     if meant in names and not runs.TASKS.is_dir():
         words.error(f"{path} is no file; `wfcheck-task {meant}` writes the file")
@@ -146,7 +147,7 @@ def judge_folder(words: Door, found: Words) -> None:
     if found.looks:
         if found.keep:
             words.error("--tally and --recheck name the folder themselves, without --keep")
-        if not found.looks.is_dir():
+        if not os.path.isdir(found.looks):
             words.error(f"{found.looks} is no folder")
         found.keep = found.looks
     if (found.by_branch or found.split) and not found.keep:
