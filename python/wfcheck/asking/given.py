@@ -23,10 +23,14 @@ class Given:
         self.copy.write_bytes(self.text)
         self.is_told = False
 
-    def close(self) -> None:
-        """Says before the last line whether the file has changed. Raises Undecided if the copy has: then nothing that was said counts."""
+    def judge(self) -> None:
+        """Raises Undecided if the copy was changed."""
         if not has(self.copy, self.text):
             raise Undecided("the copy of the task that this run worked on was changed: nothing that was said of the task counts")
+
+    def close(self) -> None:
+        """Says before the last line whether the file has changed. Raises Undecided if the copy has: then nothing that was said counts."""
+        self.judge()
         if not self.is_told and not has(self.file, self.text):
             import hashlib
             self.is_told = True

@@ -327,6 +327,7 @@ def of_never(words: Words) -> int:
 
 def before_last(words: Words) -> None:
     """Says before the last line what was accepted, if that is asked for, where it is kept, or how to keep it, and whether the file has changed."""
+    words.given.judge()
     if words.show and words.accepted:
         from . import showing
         for line in showing.shown(words):
