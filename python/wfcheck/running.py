@@ -6,12 +6,13 @@ import re
 import sys
 from typing import NamedTuple, Optional, Sequence, Union
 
-TOP = pathlib.Path(__file__).resolve().parent.parent.parent
+HERE = pathlib.Path(__file__).resolve()
+TOP = HERE.parent.parent.parent
 VARIABLE, NAME = "WFCHECK", "wfcheck"
 # where `make build` leaves the program, and where `make install` puts it beside share/wfcheck
 PLACES = [TOP / "bin" / NAME, *([TOP.parent.parent / "bin" / NAME] if TOP.parts[-2:] == ("share", NAME) else [])]
 # where a wheel puts it that has it: ENV/bin, if the module is in ENV/lib/pythonX.Y/site-packages
-PACKAGES = pathlib.Path(__file__).resolve().parent.parent
+PACKAGES = HERE.parent.parent
 BESIDE = PACKAGES.parents[2] / "bin" / NAME if PACKAGES.name in ("site-packages", "dist-packages") and len(PACKAGES.parents) > 2 else None
 RELEASED = TOP / "release" / NAME
 # a line of PROVENANCE that names a program's bytes

@@ -14,7 +14,7 @@ import sys
 import tempfile
 import threading
 import time
-from typing import Any, Callable, Dict, Iterator, List, NamedTuple, Optional, Protocol, Sequence, Set, Union
+from typing import Any, Callable, Dict, Iterator, List, NamedTuple, Optional, Sequence, Set, Union
 
 from ..running import TOP, program
 
@@ -197,7 +197,7 @@ class Child:
         if status in [it for end in ENDING for it in (-end, SHELL + end)]:
             CUT_OFF.wait(1)
         self.scope.go_on()
-        return status
+        return int(status)
 
     @contextlib.contextmanager
     def awaited(self) -> Iterator[Callable[[], Any]]:
@@ -224,14 +224,6 @@ def not_waiting(path: str, flags: int) -> int:
     return os.open(path, flags | os.O_NONBLOCK, 0o666)
 
 
-class Process(Protocol):
-    """A program that was started."""
-    pid: int
-
-    def wait(self) -> int:
-        """The status with which it ends, or the negative number of the signal that ended it."""
-
-
 class Spawned:
     """A program that was started by a call that doesn't copy this process."""
 
@@ -243,13 +235,13 @@ class Spawned:
         return os.waitstatus_to_exitcode(os.waitpid(self.pid, 0)[1])
 
 
-def begun(words: Sequence[Any], limits: Limits, how: Dict[str, Any]) -> Process:
-    """Starts a program, whose limits are set before it begins."""
+def begun(words: Sequence[Any], limits: Limits, how: Dict[str, Any]) -> Any:
+    """Starts a program, whose limits are set before it begins. What is returned has the `pid` and `wait` of a `Spawned`."""
     import subprocess
     return subprocess.Popen(words, start_new_session=True, preexec_fn=limited(limits), **how)
 
 
-def spawned(words: Sequence[str], limits: Limits, how: Dict[str, Any]) -> Process:
+def spawned(words: Sequence[str], limits: Limits, how: Dict[str, Any]) -> Any:
     """Starts a program that has a moment to end. Its limits are set as soon as it has begun."""
     places = [(os.POSIX_SPAWN_DUP2, how[name].fileno(), number) for number, name in enumerate(STREAMS)]
     # where a standard stream is closed, one of these files may have its number
