@@ -1,7 +1,7 @@
-# `demo`, `install`, `page`, `dist` and `deb` need Python 3 or a shell alone. The others need the toolchain's command `rt` on the path as well, and
-# `bench` g++ and rustc. Where there is a C compiler, `test` also has calls of the operating system fail in turn.
+# `demo`, `install`, `page`, `dist`, `deb` and `wheel` need Python 3 or a shell alone. The others need the toolchain's command `rt` on the
+# path as well, and `bench` g++ and rustc. Where there is a C compiler, `test` also has calls of the operating system fail in turn.
 
-.PHONY: demo build verifier wasm page quick test definitions bench pictures install uninstall dist deb release
+.PHONY: demo build verifier wasm page quick test definitions bench pictures install uninstall dist deb wheel release
 
 # where `make install` installs, and a folder that stands before it, as for a package
 PREFIX = /usr/local
@@ -14,10 +14,11 @@ demo:
 	@tools/demo $(if $(TASK),"$(TASK)" "$(ROUNDS)")
 
 # The commands, their pages, completions, gallery and examples, below PREFIX. It builds nothing: without bin/ it takes the released programs.
+# Files that are there and were not installed so are named, and nothing is installed; FORCE=1 writes over them.
 install:
-	@python3 -B packaging/install --prefix "$(PREFIX)" --destdir "$(DESTDIR)"
+	@python3 -B packaging/install --prefix "$(PREFIX)" --destdir "$(DESTDIR)" $(if $(FORCE),--force)
 
-# Removes exactly what `make install` installed there.
+# Removes what `make install` installed there, but for files that were changed since.
 uninstall:
 	@python3 -B packaging/install --prefix "$(PREFIX)" --destdir "$(DESTDIR)" --remove
 
@@ -27,6 +28,10 @@ dist:
 
 deb:
 	@python3 -B packaging/deb
+
+# A wheel of the Python module, its commands and the programs, in dist/, for pip on Linux on x86-64. It needs setuptools.
+wheel:
+	@python3 -B packaging/wheel
 
 # Renews release/ from bin/, once for each version: CONTRIBUTING.md says when. COMMIT=.. names an earlier commit with the same crates.
 release:

@@ -15,6 +15,7 @@ import sys
 
 sys.path.insert(0, str(pathlib.Path(__file__).resolve().parent.parent / "checks"))
 import common  # noqa: E402
+import second_opinion  # noqa: E402
 from wfcheck import asking, linting, naming, version, writing  # noqa: E402
 from wfcheck.drawing import main as drawing  # noqa: E402
 from wfcheck.ruling import main as ruling  # noqa: E402
@@ -129,6 +130,7 @@ def checker_page():
 # each command: what it does, its usage, and the document and the words of its module
 SCRIPTS = {
     "wfcheck-ask": ("ask a question that may be too hard for the search alone", "TASK ROUNDS [options]", asking.__doc__, None),
+    "wfcheck-check": ("check a report or an obstruction without the program", "TASK.json REPORT", second_opinion.__doc__, None),
     "wfcheck-draw": ("draw complexes, decision maps, refutations and obstructions", "TASK [REPORT] [options]", f"\n\n{drawing.ABOUT}", drawing.words),
     "wfcheck-lint": ("say where a task file is refused, or what in it most likely is a slip", "[--all] TASK.json", linting.__doc__, linting.parser),
     "wfcheck-names": ("tell points and arguments by the names of values and inputs", "TASK.json < TEXT", naming.__doc__, naming.parser),

@@ -15,12 +15,14 @@ and never, 2 if the words or the task are refused, and 3 if the question was not
 import argparse
 import collections
 import contextlib
+import hashlib
 import os
 import pathlib
 import re
 import shlex
 import shutil
 import signal
+import stat
 import subprocess
 import sys
 import tempfile
@@ -34,6 +36,12 @@ SOLVERS = {"cadical": "cadical -q --no-binary {formula} {proof}", "kissat": "kis
            "cryptominisat5": "cryptominisat5 --verb 0 {formula}", "minisat": "minisat -verb=0 {formula} {output}"}
 SAYS = re.compile(rb"^(?:s )?(UN)?SAT(?:ISFIABLE)?\s*$", re.M)
 NO_SOLVER = "no SAT solver is on the path (Debian has the packages cadical, cryptominisat and minisat): an obstruction alone is looked for"
+# how many bytes of what a solver wrote are read
+LONGEST = 1 << 28
+# how many bytes of a task's name count
+MOST_OF_NAME = 180
+# what would break a line
+BREAKS = {it: "_" for it in [*range(32), *range(127, 160), 0x2028, 0x2029, *range(0xd800, 0xe000)]}
 STATUS = {"map": 0, "none": 1, None: 3}
 
 
@@ -65,68 +73,97 @@ def nodes_of(text):
     return told + f" modulo {', '.join(map(str, moduli))}" * bool(moduli)
 
 
+def written(file):
+    """What a solver left at a place, if that is a file of its own and no link, and is not too long; else None."""
+    try:
+        with open(os.open(file, os.O_RDONLY | os.O_NOFOLLOW | os.O_NONBLOCK), "rb") as text:
+            about = os.fstat(text.fileno())
+            return text.read() if stat.S_ISREG(about.st_mode) and about.st_size <= LONGEST else None
+    except OSError:
+        return None
+
+
+class Changed(Exception):
+    """What a run worked on was changed, so that nothing that was said counts."""
+
+
 class Run:
-    """A run about one copy of a task's text, in a folder of its own."""
+    """A run about the bytes of a task. Each script gets a copy of its own, in a folder that is there for that step alone, so that a solver can't
+    put another task into its place. The solver has a folder for itself, and what it leaves there is copied before it is judged."""
 
-    def __init__(self, asked, solver, folder):
-        self.seconds, self.keep, self.solver, self.folder = asked.seconds, asked.keep, solver, folder
-        self.name = asked.task.stem
-        self.task = folder / "task.json"
+    def __init__(self, asked, solver, text, folder):
+        self.seconds, self.keep, self.solver, self.text, self.folder = asked.seconds, asked.keep, solver, text, folder
+        self.name = asked.task.stem.translate(BREAKS).encode()[:MOST_OF_NAME].decode(errors="ignore")
 
-    def script(self, name, *words, wrote, given=None):
-        """Has a script beside this one run, and says what it said."""
-        is_well, said = run([sys.executable, HERE / name, *words], self.seconds, self.folder / wrote, given)
-        if name != "formula.py" or not is_well:
-            print(f"    {name}: {said}", flush=True)
-        return is_well
+    def script(self, name, *words, given=None):
+        """Has a script beside this one run about the task, with some texts as further files, and says what it said. Returns what it wrote, or
+        None if it failed."""
+        with tempfile.TemporaryDirectory() as own:
+            folder = pathlib.Path(own)
+            texts = {"task.json": self.text, **({"given": given} if given is not None else {})}
+            for file, data in texts.items():
+                (folder / file).write_bytes(data)
+            places = [folder / it if it in ("task.json", "given") else it for it in words]
+            is_read = given is not None and "given" not in words
+            is_well, said = run([sys.executable, HERE / name, *places], self.seconds, folder / "wrote", folder / "given" if is_read else None)
+            if any((folder / file).read_bytes() != data for file, data in texts.items()):
+                raise Changed(f"what {name} was given was changed meanwhile: nothing that was said of the task counts")
+            if name != "formula.py" or not is_well:
+                print(f"    {name}: {said}", flush=True)
+            return (folder / "wrote").read_bytes() if is_well else None
 
-    def kept(self, file, name):
-        """Keeps what was accepted under a name that is free."""
-        if self.keep:
-            self.keep.mkdir(parents=True, exist_ok=True)
-            place = self.keep / name
-            for number in range(2, 1000):
-                if not place.exists():
-                    break
-                place = self.keep / f"{pathlib.Path(name).stem}.{number}{pathlib.Path(name).suffix}"
-            shutil.copyfile(self.folder / file, place)
+    def kept(self, data, name):
+        """Keeps what was accepted under a name that is free, and follows no link there."""
+        if not self.keep:
+            return
+        self.keep.mkdir(parents=True, exist_ok=True)
+        stem, _, kind = name.rpartition(".")
+        for number in range(1, 1000):
+            place = self.keep / (name if number == 1 else f"{stem}.{number}.{kind}")
+            with contextlib.suppress(FileExistsError):
+                with open(os.open(place, os.O_WRONLY | os.O_CREAT | os.O_EXCL | os.O_NOFOLLOW, 0o644), "wb") as file:
+                    file.write(data)
+                return
+        print(f"    {name} can't be kept: a thousand names are taken", flush=True)
 
     def is_never(self):
         """The nodes of an obstruction that is found and holds, in words, or None."""
-        found = self.script("finding.py", self.task, wrote="found")
-        if found and self.script("second_opinion.py", self.task, self.folder / "found", wrote="said"):
-            self.kept("found", f"{self.name}.obstruction")
-            return nodes_of((self.folder / "found").read_text())
+        found = self.script("finding.py", "task.json")
+        if found is not None and self.script("second_opinion.py", "task.json", "given", given=found) is not None:
+            self.kept(found, f"{self.name}.obstruction")
+            return nodes_of(found.decode())
         return None
 
     def answer(self, rounds):
         """What the solver says of a number of rounds, if it is accepted: map, none or nothing."""
-        if not self.solver or not self.script("formula.py", self.task, rounds, wrote="formula"):
+        formula = self.script("formula.py", "task.json", rounds) if self.solver else None
+        if formula is None:
             return None
-        places = {name: self.folder / name for name in ("formula", "proof", "output")}
-        for name in ("proof", "output"):
-            places[name].unlink(missing_ok=True)
-        words = [word.format(**places) for word in shlex.split(self.solver)]
-        _, said = run(words, self.seconds, self.folder / "solver")
-        model = places["output"] if places["output"].is_file() else self.folder / "solver"
-        found = SAYS.search(model.read_bytes()) or SAYS.search((self.folder / "solver").read_bytes())
-        print(f"    {pathlib.Path(words[0]).name}: {found[0].decode().strip() if found else said}", flush=True)
+        with tempfile.TemporaryDirectory(dir=self.folder) as made:
+            places = {name: pathlib.Path(made) / name for name in ("formula", "proof", "output")}
+            places["formula"].write_bytes(formula)
+            words = [word.format(**places) for word in shlex.split(self.solver)]
+            _, said = run(words, self.seconds, pathlib.Path(made) / "solver")
+            told, model, proof = (written(it) for it in (pathlib.Path(made) / "solver", places["output"], places["proof"]))
+        model = told if model is None else model
+        found = SAYS.search(model or b"") or SAYS.search(told or b"")
+        print(f"    {pathlib.Path(words[0]).name.translate(BREAKS)}: {found[0].decode().strip() if found else said}", flush=True)
         if found and not found[1]:
             return self.of_model(rounds, model)
-        return self.of_proof(rounds, places["proof"]) if found and places["proof"].is_file() else None
+        return self.of_proof(rounds, proof) if found and proof is not None else None
 
     def of_model(self, rounds, model):
         """A map, if the solver's model is one."""
-        is_well = self.script("model.py", self.task, rounds, wrote="map", given=model)
-        if is_well and self.script("second_opinion.py", self.task, self.folder / "map", wrote="said"):
-            self.kept("map", f"{self.name}-{rounds}.map")
+        report = self.script("model.py", "task.json", rounds, given=model)
+        if report is not None and self.script("second_opinion.py", "task.json", "given", given=report) is not None:
+            self.kept(report, f"{self.name}-{rounds}.map")
             return "map"
         return None
 
     def of_proof(self, rounds, proof):
         """None, if the solver's proof shows it."""
-        if self.script("rup.py", self.task, rounds, wrote="said", given=proof):
-            self.kept("proof", f"{self.name}-{rounds}.drat")
+        if self.script("rup.py", "task.json", rounds, given=proof) is not None:
+            self.kept(proof, f"{self.name}-{rounds}.drat")
             return "none"
         return None
 
@@ -165,6 +202,9 @@ def asked_for():
 
 def main():
     words, asked, rounds = asked_for()
+    known = HERE.parent / "gallery/tasks" / f"{asked.task.name.removesuffix('.json')}.json"
+    if not asked.task.is_file() and known.is_file() and asked.task.name == str(asked.task):
+        asked.task = known
     solver = SOLVERS.get(asked.solver, asked.solver) or next((SOLVERS[it] for it in SOLVERS if shutil.which(it)), None)
     try:
         with open(asked.task, "rb") as file:
@@ -172,18 +212,21 @@ def main():
         task_file.read(text)
         if solver and not shutil.which(shlex.split(solver)[0]):
             words.error(f"--solver: {solver} is not on the path")
-    except (OSError, ValueError, IndexError) as error:
+    except OSError as error:
+        words.error(f"{asked.task} can't be read, and is no task of gallery/tasks: {error.strerror}")
+    except (ValueError, IndexError) as error:
         words.error(str(error))
     except task_file.Refused as refused:
         words.error(f"the task is refused, {refused.line}: {refused.words}")
     if not solver:
         print(NO_SOLVER, file=sys.stderr)
     with tempfile.TemporaryDirectory() as folder:
-        run_of = Run(asked, solver, pathlib.Path(folder))
-        run_of.task.write_bytes(text)
+        run_of = Run(asked, solver, text, pathlib.Path(folder))
         print(f"{run_of.name} after every number of rounds:", flush=True)
         nodes = run_of.is_never()
         last, status = (f"never, by {nodes}", STATUS["none"]) if nodes else run_of.last(rounds)
+    if written(asked.task.resolve()) != text:
+        print(f"    the file has changed during this run: the answer is about the bytes that were read first, with SHA-256 {hashlib.sha256(text).hexdigest()}")
     print(f"{run_of.name}: {last}")
     return status
 

@@ -25,12 +25,22 @@ PROOFS = "rup.py", "lrat.py"
 # behind a task's name: the rounds, the branch, and a number where a file with the name was there
 BEHIND = re.compile(r"-(?P<rounds>\d{1,2})(?:-(?P<branch>\d{1,9}))?(?:\.\d+)?")
 NUMBERED = re.compile(r"(?:\.\d+)?")
+# how many bytes of a certificate the scripts here read, and of a text those that tell its rounds
+LONGEST, HEAD = 1 << 28, 1 << 10
+# how many bytes of a task's name a certificate begins with, and what stands for what would break a line
+MOST_OF_NAME = 180
+BREAKS = {it: "_" for it in [*range(32), *range(127, 160), 0x2028, 0x2029, *range(0xd800, 0xe000)]}
 
 
 def files_of(given):
     """The files of tasks by their names, the longest names first: a name may begin as another one."""
-    found = {path.stem: path for path in [*sorted(TASKS.glob("*.json")), *given]}
+    found = {short(path.stem): path for path in [*sorted(TASKS.glob("*.json")), *given]}
     return {name: found[name] for name in sorted(found, key=len, reverse=True)}
+
+
+def short(stem):
+    """How the names of a task's certificates begin."""
+    return stem.translate(BREAKS).encode()[:MOST_OF_NAME].decode(errors="ignore")
 
 
 def question_of(file, tasks):
@@ -52,11 +62,13 @@ def judged(file, tasks):
     task, rounds, branch = question
     if not script or branch and script not in PROOFS:
         return None, "no script judges a part of a branch" if script else "no script judges this kind"
+    if (size := file.stat().st_size) > LONGEST:
+        return None, f"it has {size:,} bytes, and at most {LONGEST:,} are read"
     words = [task, rounds, *(["--branch", branch] if branch else [])] if script in PROOFS else [task, file]
     begun = time.monotonic()
     with open(file, "rb") as text:
-        ran = subprocess.run([sys.executable, HERE / script, *map(str, words)], stdin=text, capture_output=True, text=True, check=False)
-    said = (ran.stdout + ran.stderr).strip().rpartition("\n")[2]
+        ran = subprocess.run([sys.executable, HERE / script, *map(str, words)], stdin=text, capture_output=True, check=False)
+    said = (ran.stdout + ran.stderr).decode(errors="replace").strip().rpartition("\n")[2]
     if ran.returncode == 0 and script not in PROOFS and (wrong := of_other_rounds(file, rounds)):
         return False, f"refused: {wrong}, by {script}"
     return ran.returncode == 0, f"{'' if ran.returncode == 0 else 'refused: '}{said}, by {script} in {time.monotonic() - begun:.2f} s"
@@ -64,7 +76,8 @@ def judged(file, tasks):
 
 def of_other_rounds(file, rounds):
     """Why a report is not about the rounds that its name says, or None. An obstruction is about all."""
-    lines = file.read_text(errors="replace").split("\n")
+    with open(file, "rb") as text:
+        lines = text.read(HEAD).decode(errors="replace").split("\n")
     if rounds is None:
         return None if lines[0] == "wfcheck obstruction 1" else "it is no obstruction"
     return None if lines[2:3] == [f"rounds {rounds}"] else f"its name says {rounds} rounds, and it has another number"
@@ -80,9 +93,13 @@ def main():
     tasks, counts = files_of(asked.tasks), {True: 0, False: 0, None: 0}
     for file in sorted(asked.folder.iterdir()):
         if file.suffix in JUDGES or file.suffix in OTHERS:
-            is_accepted, said = judged(file, tasks) if file.is_file() else (None, "no regular file")
+            try:
+                is_accepted, said = judged(file, tasks) if file.is_file() else (None, "no regular file")
+            except OSError as error:
+                is_accepted, said = None, f"it can't be read: {error.strerror}"
             counts[is_accepted] += 1
-            print(f"{file.name}: {'not judged: ' if is_accepted is None else ''}{said}", flush=True)
+            # a name may have what would break a line or can't be written
+            print(f"{file.name.translate(BREAKS)}: {'not judged: ' if is_accepted is None else ''}{said.translate(BREAKS)}", flush=True)
     print(f"{counts[True]} accepted, {counts[False]} refused, {counts[None]} not judged")
     return 1 if counts[False] else 0 if counts[True] and not counts[None] else 3
 

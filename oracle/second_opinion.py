@@ -4,7 +4,7 @@
 It shares nothing with the program: it is here to be read in ten minutes, and is slow. The task is read by task_file.py, and the report's
 text by reports.py. It says `holds: map`, `holds: least` or `holds: none`, and ends with status 0. Or it says in words what is wrong, as
 with a report of none that has no lines, or why it can't read the report, and ends with status 1. The status is 2 where a file can't be
-opened, or the task is refused. Whether a map is the least one it looks at where the report has the lines for it.
+opened or is empty, or the task is refused. Whether a map is the least one it looks at where the report has the lines for it.
 
 The report may be an obstruction, which obstructions.py judges. Then it says `holds: none at every number of rounds`, or what is
 wrong. It also gives random values to the points after 0, 1 and 2 rounds, and counts the executions as each balance says, if that
@@ -12,6 +12,7 @@ is to count at most 20,000."""
 import argparse
 import functools
 import itertools
+import os
 import random
 import signal
 import sys
@@ -198,7 +199,10 @@ def given(name, about):
     asked = words.parse_args()
     try:
         with open(asked.task, "rb") as task_text, open(asked.report, "rb") as report_file:
-            return task_file.read(task_text.read(task_file.LONGEST + 1))[0], report_file.read(reports.LONGEST + 1).decode("ascii", "replace")
+            task, text = task_file.read(task_text.read(task_file.LONGEST + 1))[0], report_file.read(reports.LONGEST + 1).decode("ascii", "replace")
+        if text:
+            return task, text
+        print(f"{name}: {asked.report} is empty: did the command fail that was to write it?", file=sys.stderr)
     except OSError as error:
         print(f"{name}: {error}", file=sys.stderr)
     except task_file.Refused as refused:
@@ -207,7 +211,7 @@ def given(name, about):
 
 
 def main():
-    answer, wrong = judge(*given("second_opinion.py", __doc__))
+    answer, wrong = judge(*given(os.path.basename(sys.argv[0]), __doc__))
     if wrong:
         sys.exit(f"does not hold: {wrong}")
     print(f"holds: {answer}")

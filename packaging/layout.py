@@ -18,7 +18,9 @@ PROGRAMS = ["wfcheck", "wfverify"]
 MODULE, PAGE = "wfcheck.wasm", "wfcheck.html"
 # each command that is Python, with the function of wfcheck.doors that it calls
 DOORS = {f"wfcheck-{door}": door for door in ("ask", "draw", "lint", "names", "rules", "task")}
-COMMANDS = [*PROGRAMS, *DOORS]
+# the command that is a script of oracle/, and the scripts that it imports
+CHECK, ORACLE = "wfcheck-check", ["second_opinion.py", "obstructions.py", "reports.py", "task_file.py"]
+COMMANDS = sorted([*PROGRAMS, *DOORS, CHECK])
 SHARE = "share/wfcheck"
 # where shells look for completions
 COMPLETIONS = {
@@ -29,22 +31,60 @@ COMPLETIONS = {
 SHARED = [
     "README.md", "CHANGELOG.md", "CITATION.cff", "LICENSE", "tools/README.md",
     *sorted(str(it.relative_to(ROOT)) for it in (ROOT / "docs").glob("*.md")), "docs/pictures", "docs/task.schema.json",
-    "gallery", "examples", "python/wfcheck", "python/pyproject.toml", "python/backend.py", "python/README.md",
+    "gallery", "examples", *(f"oracle/{it}" for it in ORACLE), "python/wfcheck", "python/pyproject.toml", "python/backend.py", "python/README.md",
 ]
 LEFT_OUT = {"__pycache__"}
 SHA = re.compile(r"^([0-9a-f]{64}) [ *](\S+)$", re.M)
 EXECUTABLE, PLAIN = 0o755, 0o644
 DOOR = '''#!/usr/bin/env python3
 """The command `{command}`, with the module wfcheck that was installed beside it."""
-import pathlib
+import os
 import sys
 
 sys.dont_write_bytecode = True
-sys.path.insert(0, str(pathlib.Path(__file__).resolve().parent.parent / "{share}/python"))
-from wfcheck import doors  # noqa: E402
+sys.path.insert(0, os.path.join(os.path.dirname(os.path.dirname(os.path.realpath(__file__))), "{share}/python"))
+try:
+    from wfcheck import bytecode
+    bytecode.keep()
+    from wfcheck import doors
+except Exception as error:
+    # a status of Python's own would mean an answer
+    print(f"{command}: {{type(error).__name__}}: {{error}}", file=sys.stderr)
+    sys.exit(3)
 
 sys.exit(doors.{door}())
 '''
+CHECK_DOOR = '''#!/usr/bin/env python3
+"""The command `{command}`: whether a report or an obstruction holds, by the script that was installed beside it."""
+import os
+import runpy
+import sys
+
+sys.dont_write_bytecode = True
+FOLDER = os.path.join(os.path.dirname(os.path.dirname(os.path.realpath(__file__))), "{share}/oracle")
+sys.path.insert(0, FOLDER)
+runpy.run_path(os.path.join(FOLDER, "{script}"), run_name="__main__")
+'''
+# what this package may install, by paths below the prefix
+MINE = re.compile(r"bin/wfcheck(-[a-z]+)?|bin/wfverify|share/man/man1/(wfcheck(-[a-z]+)?|wfverify)\.1|share/wfcheck/(?!.*//)[^\n]*[^/\n]")
+
+
+def is_mine(path):
+    """Whether a path below the prefix is one that this package may install: a name, not a way out of the prefix."""
+    if any(it in ("", ".", "..") for it in path.split("/")) or "\0" in path:
+        return False
+    return path in COMPLETIONS.values() or MINE.fullmatch(path) is not None
+
+
+def is_above_mine(folder):
+    """Whether a folder below the prefix is one that this package may make."""
+    known = {folder_above for it in ["bin/x", "share/man/man1/x", f"{SHARE}/x", *COMPLETIONS.values()] for folder_above in above(it)}
+    return folder == "." or folder in known or is_mine(f"{folder}/x")
+
+
+def above(path):
+    """The folders of a path, the deepest first."""
+    return [str(it) for it in pathlib.PurePosixPath(path).parents][:-1]
 
 
 class Mistake(Exception):
@@ -71,17 +111,12 @@ def md5(data):
     return hashlib.md5(data).hexdigest()
 
 
-def above(path):
-    """The folders of a path, the deepest first."""
-    return [str(it) for it in pathlib.PurePosixPath(path).parents][:-1]
-
-
 def leave(name, data):
     """Leaves a file in dist/, and lists the SHA-256 of all files of this version that are there."""
     DIST.mkdir(exist_ok=True)
     (DIST / f"{name}.new").write_bytes(data)
     (DIST / f"{name}.new").replace(DIST / name)
-    mine = sorted(it for it in DIST.iterdir() if re.match(rf"wfcheck[-_]{re.escape(version())}[-_].*(\.tar\.gz|\.deb)$", it.name))
+    mine = sorted(it for it in DIST.iterdir() if re.match(rf"wfcheck[-_]{re.escape(version())}[-_].*(\.tar\.gz|\.deb|\.whl)$", it.name))
     (DIST / "SHA256SUMS").write_text("".join(f"{digest(it.read_bytes())}  {it.name}\n" for it in mine))
     print(f"dist/{name} has {len(data):,} bytes and the SHA-256 {digest(data)}")
 
@@ -146,6 +181,8 @@ def files(binaries, provenance):
     found = {f"bin/{name}": File(data, EXECUTABLE) for name, data in binaries.items()}
     for command, door in DOORS.items():
         found[f"bin/{command}"] = File(DOOR.format(command=command, share=SHARE, door=door).encode(), EXECUTABLE)
+    door = CHECK_DOOR.format(command=CHECK, share=SHARE, script=ORACLE[0])
+    found[f"bin/{CHECK}"] = File(door.encode(), EXECUTABLE)
     for command in COMMANDS:
         found[f"share/man/man1/{command}.1"] = File((ROOT / f"docs/{command}.1").read_bytes())
     for name, place in COMPLETIONS.items():

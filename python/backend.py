@@ -7,7 +7,7 @@ import pathlib
 import sys
 import tempfile
 import zipfile
-from typing import Any, Dict
+from typing import Any, Collection, Dict
 
 try:
     import setuptools
@@ -18,9 +18,13 @@ except ImportError:
 
 __all__ = ["build_editable", "build_sdist", "build_wheel"]
 TAG = "py3-none-any"
-WHEEL = f"Wheel-Version: 1.0\nGenerator: wfcheck\nRoot-Is-Purelib: true\nTag: {TAG}\n"
 # the first moment that a zip file can tell
 MOMENT = (1980, 1, 1, 0, 0, 0)
+
+
+def wheel_text(tag: str, is_pure: bool) -> str:
+    """What a wheel says of itself."""
+    return f"Wheel-Version: 1.0\nGenerator: wfcheck\nRoot-Is-Purelib: {str(is_pure).lower()}\nTag: {tag}\n"
 
 
 def gathered(folder: pathlib.Path) -> Dict[str, bytes]:
@@ -32,19 +36,20 @@ def gathered(folder: pathlib.Path) -> Dict[str, bytes]:
     name = f"wfcheck-{made.get_version()}.dist-info"
     told = {"METADATA": "PKG-INFO", "entry_points.txt": "entry_points.txt", "top_level.txt": "top_level.txt"}
     found = {str(it.relative_to(lib)): it.read_bytes() for it in lib.rglob("*") if it.is_file()}
-    return {**found, **{f"{name}/{mine}": (about / "wfcheck.egg-info" / its).read_bytes() for mine, its in told.items()}, f"{name}/WHEEL": WHEEL.encode()}
+    return {**found, **{f"{name}/{mine}": (about / "wfcheck.egg-info" / its).read_bytes() for mine, its in told.items()}, f"{name}/WHEEL": wheel_text(TAG, True).encode()}
 
 
-def packed(found: Dict[str, bytes], directory: str) -> str:
-    """Writes a wheel with these files into a folder, and returns its name."""
+def packed(found: Dict[str, bytes], directory: str, tag: str = TAG, programs: Collection[str] = ()) -> str:
+    """Writes a wheel with these files into a folder, of which some are programs, and returns its name."""
     about = next(it.rpartition("/")[0] for it in found if it.endswith("/WHEEL"))
     lines = [f"{path},sha256={digest(data)},{len(data)}" for path, data in sorted(found.items())]
     record = "".join(f"{it}\n" for it in [*lines, f"{about}/RECORD,,"])
-    wheel = f"{about.removesuffix('.dist-info')}-{TAG}.whl"
+    wheel = f"{about.removesuffix('.dist-info')}-{tag}.whl"
     with zipfile.ZipFile(pathlib.Path(directory) / wheel, "w", zipfile.ZIP_DEFLATED) as file:
         for path, data in [*sorted(found.items()), (f"{about}/RECORD", record.encode())]:
             info = zipfile.ZipInfo(path, MOMENT)
-            info.external_attr, info.compress_type = 0o644 << 16, zipfile.ZIP_DEFLATED
+            mode = 0o100755 if path in programs else 0o100644
+            info.external_attr, info.compress_type = mode << 16, zipfile.ZIP_DEFLATED
             file.writestr(info, data)
     return wheel
 

@@ -38,6 +38,21 @@ class Arguments(Case):
                 self.fails(TypeError, "^a task is what `task` or `read` returns, and not ", call, odd, *words)
         self.fails(TypeError, "name and the text of a task are strings", wfcheck.solve, wfcheck.Task("mine", None), 1)
 
+    def test_views_and_maps(self):
+        task = known("consensus-2")
+        for odd in (1, "consensus-2", None):
+            self.fails(TypeError, "^a task is what", wfcheck.tell, odd, (0, 1))
+            self.fails(TypeError, "^rules are those of a Map", wfcheck.rules, odd)
+        for odd in (1, "view", (0,), (0, ()), (0, (1,)), (0, "lo"), ("p0", 1), (0, ((0, 1), (1, "lo")))):
+            self.fails(TypeError, "^a view is ", wfcheck.tell, task, odd)
+        for text in ("", "{}", "[]", "null", "[" * 9000):
+            self.fails(wfcheck.Mistake, "the text is that of no task", wfcheck.tell, wfcheck.Task("mine", text), (0, 1))
+        self.assertEqual(wfcheck.tell(task, (0, ((0, 0), (1, 1)))), "p0 saw {p0=0, p1=1}")
+
+    def test_an_empty_text(self):
+        for call in (wfcheck.verify, wfcheck.explain):
+            self.fails(wfcheck.Mistake, "an empty text is no answer: did the command fail", call, known("consensus-2"), "")
+
     def test_other_arguments(self):
         task = known("consensus-2")
         for odd in (None, 5, CONSENSUS):

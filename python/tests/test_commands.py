@@ -40,7 +40,9 @@ class WithoutProgram(Case):
         (self.folder / "consensus-2.json").write_text("mine")
         self.assertEqual(self.python(*door, "consensus-2"), (2, "wfcheck-task: consensus-2.json is there and says something else: it is left as it is\n"))
         self.assertEqual((self.folder / "consensus-2.json").read_text(), "mine")
-        self.assertEqual(self.python(*door, "consensus-2", "--folder", "nowhere"), (2, "wfcheck-task: nowhere/consensus-2.json: No such file or directory\n"))
+        self.assertEqual(self.python(*door, "consensus-2", "--folder", "new/one"), (0, "consensus-2.json\n"))
+        self.assertEqual((self.folder / "new/one/consensus-2.json").read_text(), known("consensus-2").text)
+        self.assertEqual(self.python(*door, "consensus-2", "--folder", "consensus-2.json/one"), (2, "wfcheck-task: consensus-2.json/one: Not a directory\n"))
 
     def test_task_lists_all(self):
         status, told = self.python("-m", "wfcheck", "task", "--list")
@@ -77,6 +79,15 @@ class WithoutProgram(Case):
         self.assertEqual((status, told.split(" ")[0]), (2, "usage:"))
         self.assertEqual(self.python("-m", "wfcheck", "--help"), (0, told))
 
+    def test_an_exception_has_a_status_of_its_own(self):
+        """By each door of each command: Python's own status would mean an answer or a slip."""
+        (self.folder / "json.py").write_text("raise RuntimeError('this module is broken')\n")
+        path = f"{self.folder}:{PYTHON}"
+        for command in ("lint", "task", "draw", "names", "rules"):
+            for door in (["-m", "wfcheck", command], ["-c", DOOR.format(command)]):
+                status, said = self.python(*door, "x.json", "y", PYTHONPATH=path)
+                self.assertEqual((status, "this module is broken" in said, "Traceback" in said), (3, True, False), (door, said))
+
     def test_an_exception_is_no_answer(self):
         (self.folder / "tempfile.py").write_text("raise RuntimeError('this module is broken')\n")
         status, said = self.python("-m", "wfcheck", "ask", "consensus-2", "1", PYTHONPATH=f"{self.folder}:{ROOT / 'python'}")
@@ -108,3 +119,19 @@ class Asking(Case):
         env = {**os.environ, "SLURM_ARRAY_TASK_ID": "1"}
         run = subprocess.run(["sh", self.folder / "job.sh"], capture_output=True, text=True, cwd=self.folder, env=env, check=False)
         self.assertEqual((run.returncode, "none in 16 of the 16 branches" in run.stdout), (0, True))
+
+
+class Words(Case):
+    """The words of `ask`."""
+
+    def test_words_without_options_need_no_parser(self):
+        """They come to the same with a parser, and an option comes to what it says."""
+        from wfcheck.asking.asked import Words as Asked
+        from wfcheck.asking.asked import parsed
+        from wfcheck.asking.parsing import parser
+        plain, there = parsed(["a", "b", "0..3"], "ask")[1], Asked()
+        parser("ask").parse_intermixed_args(["a", "b", "0..3"], there)
+        *there.tasks, there.rounds = there.given
+        self.assertEqual({**vars(plain), "hint": [*plain.hint]}, vars(there))
+        some = parsed(["a", "--hint", "x", "0..3", "--seconds", "2", "--hint", "y", "--show"], "ask")[1]
+        self.assertEqual((some.tasks, some.rounds, [*map(str, some.hint)], some.seconds, some.show), (["a"], "0..3", ["x", "y"], 2.0, True))

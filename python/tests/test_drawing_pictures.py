@@ -13,6 +13,7 @@ import wfcheck
 from wfcheck.answers import obstruction_of
 from wfcheck.drawing import argument, counting, graphs, labels, main, outputs, page, palette, pictures, scene, subdivision
 from wfcheck.drawing.svg import svg
+from wfcheck.names import names_of
 from wfcheck.tasks import read
 from wfcheck.views import Unreadable
 
@@ -213,9 +214,11 @@ class Words(unittest.TestCase):
         self.assertIsNone(wfcheck.Map(known("consensus-3"), 4, {}, (), "")._repr_svg_())
 
     def test_inputs(self):
-        self.assertEqual(main.inputs("p2=1,p0=10"), ((0, 10), (2, 1)))
-        for text in ("", "p0", "p0=x", "0=1", "p0=1,,p1=1"):
-            self.assertRaises(Exception, main.inputs, text)
+        task, named = known("consensus-3"), known("consensus-3")._replace(names=names_of({}, {0: "lo", 1: "a, b"}))
+        self.assertEqual(main.simplex_of(main.inputs("p2=1,p0=10"), task), ((0, 10), (2, 1)))
+        self.assertEqual(main.simplex_of(main.inputs("p0=lo,p1=a, b, p2=2"), named), ((0, 0), (1, 1), (2, 2)))
+        for text in ("", "p0", "p0=x", "0=1", "p0=1,,p1=1", "p0=\u0661"):
+            self.assertRaises(Exception, lambda it: main.simplex_of(main.inputs(it), task), text)
 
     def test_colours_of_many_values(self):
         found = [palette.colour(it, range(30)) for it in range(30)]

@@ -66,7 +66,10 @@ class WithoutProgram(Case):
             plain = row.read_text()
             told = names.told(plain, back)
             if plain.startswith(names.EVERY):
-                self.assertEqual(told, plain, row)
+                # of several values the tuple stands in brackets
+                told = re.sub(r"\((value[^)]*)\)", lambda it: it[1].replace(", ", " "), told)
+                self.assertIn("input", told, row)
+                self.assertEqual(told.replace("value", "").replace("input", ""), plain.replace("value", "").replace("input", ""), row)
                 continue
             self.assertEqual(told.replace("value", "").replace("input", ""), plain.replace("value", "").replace("input", ""), row)
             self.assertEqual("value" in told and "input" in told, plain.startswith("No decision map after ") or "decides" in plain, row)
@@ -84,6 +87,8 @@ class WithoutProgram(Case):
             status, said = self.python(*door, TASKS / "consensus-2.json", given_text=text)
             self.assertEqual((status, said.count("no names stand beside"), text in said), (0, 1, True))
             self.assertEqual(self.python(*door, "nowhere.json", given_text=text)[0], 2)
+            status, said = self.python(*door, "ca.json", given_text="")
+            self.assertEqual((status, said.partition(": ")[2]), (2, "an empty text: did the command before it fail?\n"))
 
     def test_an_answer_in_three_lines(self):
         """The `repr` of each answer, with the longest names: a line of a terminal has 80 letters."""
@@ -103,7 +108,7 @@ class Named(Case):
         task = commit_adopt()
         found, plain = wfcheck.solve(task, 1), wfcheck.solve(known("commit-adopt-2"), 1)
         self.assertEqual(found.report, plain.report)
-        self.assertEqual(repr(found), "<Map of <Task 'ca', 631 bytes> after 1 round: 12 views, values adopt no, commit to no, adopt yes, commit to yes>")
+        self.assertEqual(repr(found), "<Map of <Task 'ca', 2 processes, 4 input facets, values adopt no, commit to no, adopt yes, commit to yes> after 1 round: 12 views, values adopt no, commit to no, adopt yes, commit to yes>")
         self.assertEqual(str(found).split("\n")[:2], ["p0 saw {p0=no} decides commit to no", "p0 saw {p0=yes} decides commit to yes"])
         self.assertEqual(str(plain).split("\n")[1], "p0 saw {p0=1} decides 3")
         self.assertIn("<td>p0 saw {p0=yes}</td><td>commit to yes</td>", found._repr_html_())
@@ -116,6 +121,33 @@ class Named(Case):
         task = commit_adopt()
         told = wfcheck.explain(task, wfcheck.solve(task, 0))
         self.assertIn("1. v0 is not adopt no, adopt yes or commit to yes: in execution 0, {p0=no}, no tuple at (v0) has it. So v0 is commit to no.", told)
+
+    def test_an_obstruction(self):
+        """In words, and as a page. A tuple of several values stands in brackets."""
+        def agree(start, end):
+            return len({*end.values()}) == 1 and {*end.values()} <= {*start.values()}
+        task = wfcheck.task("lohi", 3, [("lo", "mid", "hi")], agree, values=["lo", "mid", "hi"])
+        found = wfcheck.obstruction(task)
+        told = wfcheck.explain(task, found)
+        self.assertRegex(told, r"p\d decides (lo|mid|hi) as often on \{p\d=(lo|mid), p\d=(mid|hi)\} as on \{p")
+        self.assertNotRegex(told, r"decides? \d|=\d")
+        pair = wfcheck.task("pair", 3, [("lo", "mid", "hi")], lambda start, end: {*end.values()} <= {*start.values()} and len({*end.values()}) < 3,
+                            values=["lo", "mid", "hi"])
+        self.assertRegex(wfcheck.explain(pair, wfcheck.obstruction(pair)), r"decide \(\w+, \w+\)")
+        wfcheck.write(task, self.folder)
+        (self.folder / "never").write_text(found.text)
+        status, said = self.python("-m", "wfcheck", "draw", "lohi.json", "never", "--html")
+        self.assertEqual((status, "{p0=lo, p1=mid}, weight" in said), (0, True))
+        status, said = self.python("-m", "wfcheck", "draw", "lohi.json", "--rounds", "1", "--input", "p0=lo,p1=mid, p2=hi")
+        self.assertEqual((status, said[:5]), (0, "<svg "))
+        self.assertEqual(self.python("-m", "wfcheck", "draw", "lohi.json", "--outputs", "--input", "p0=lo,p1=mid,p2=2")[0], 0)
+        self.assertEqual(self.python("-m", "wfcheck", "draw", "lohi.json", "--rounds", "1", "--input", "p0=none"),
+                         (2, "draw: --input: p0=none is no input: the inputs are lo, mid, hi\n"))
+
+    def test_rules(self):
+        """They tell inputs and values by their names."""
+        task = wfcheck.task("safe", 2, [("lo", "hi"), ("lo", "lo"), ("hi", "hi")], lambda start, end: {*end.values()} <= {*start.values()}, values=["lo", "hi"])
+        self.assertRegex(wfcheck.rules(wfcheck.solve(task, 0)), r"(?m)its input is lo: lo|knows the input lo: lo|its input is hi: hi")
 
     def test_a_legend_of_long_names_fits(self):
         long = {number: f"{number} {'w' * 56}" for number in range(4)}

@@ -22,6 +22,21 @@ def decided(rules, view):
 class WithoutProgram(Case):
     """What needs no program."""
 
+    def test_large_values_cost_no_time(self):
+        """Values 0 and 255: numbers and factors are those alone that two points have."""
+        points = [facts.facts_of((p, ((0, a), (1, b)))) for p in (0, 1) for a in (0, 1) for b in (0, 255)]
+        values = [255 * (it.own > 0) for it in points]
+        about = grammar.About(False, 2, 1, [0, 1, 255], [0, 255], wfcheck.Task("", "").names)
+        self.assertLess(len(grammar.outcomes(about, points, values)), 60)
+        self.assertEqual(grammar.lines_through({(0, 1), (2, 5), (2, 6)}), {(2, 1)})
+
+    def test_the_time_is_over(self):
+        points = [facts.facts_of((0, it)) for it in range(30)]
+        about = grammar.About(False, 1, 0, [*range(30)], [*range(30)], wfcheck.Task("", "").names)
+        values = [it * it % 29 for it in range(30)]
+        with self.assertRaisesRegex(wfcheck.NoAnswer, "no rules were found within 1e-06 s"):
+            search.rules_of(points, values, grammar.tests(about), grammar.outcomes(about, points, values), search.Watch(1e-6))
+
     def test_what_a_view_knows(self):
         """A view by hand: in round 1 process 2 was alone, and process 0 saw itself and 2; in round 2 process 0 saw both."""
         it = facts.facts_of(view_of("p0 saw {p0 saw {p0=4, p2=7}, p2 saw {p2=7}}"))

@@ -77,6 +77,7 @@ class Tasks(Case):
                 wfcheck.restrict(whole, kept)
         said = {
             ("0,2", whole.text): (0, SMALL), ("0,3", whole.text): (2, "restrict: task: the processes are 0 to 2, and not 3\n"),
+            ("0,1", ""): (2, "restrict: an empty text: did the command before it fail?\n"),
             ("0,1", "{}"): (2, "restrict: what is read is no task: tools/lint.py FILE says where it is wrong\n"),
         }
         for (words, text), wanted in said.items():

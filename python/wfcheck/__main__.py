@@ -20,6 +20,16 @@ USAGE = """usage: python3 -m wfcheck ask TASK ROUNDS [options]
 
 def main(words: List[str]) -> int:
     """Does what the words say, and returns the status."""
+    try:
+        return done(words)
+    except Exception as error:
+        # a status of Python's own would mean an answer
+        print(f"{words[0] if words else 'wfcheck'}: {type(error).__name__}: {error}", file=sys.stderr)
+        return UNDECIDED
+
+
+def done(words: List[str]) -> int:
+    """Does what the words say, and returns the status."""
     if words[:1] == ["restrict"]:
         return restricted(words[1:])
     if words[:1] == ["draw"]:
@@ -41,13 +51,8 @@ def main(words: List[str]) -> int:
         signal.signal(signal.SIGPIPE, signal.SIG_DFL)
         print(USAGE, file=sys.stdout if words[:1] == ["--help"] else sys.stderr)
         return 0 if words[:1] == ["--help"] else REFUSED
-    try:
-        from .asking import words as asked
-        return asked.main(words[1:], ["env", f"PYTHONPATH={FOLDER}", sys.executable, "-m", "wfcheck", "ask"])
-    except Exception as error:
-        # a status of Python's own would mean an answer
-        print(f"ask: {type(error).__name__}: {error}", file=sys.stderr)
-        return UNDECIDED
+    from .asking import words as asked
+    return asked.main(words[1:], ["env", f"PYTHONPATH={FOLDER}", sys.executable, "-m", "wfcheck", "ask"])
 
 
 def numbers(text: str) -> List[int]:
@@ -65,7 +70,11 @@ def restricted(listed: List[str]) -> int:
     kept = words.parse_args(listed).processes
     signal.signal(signal.SIGPIPE, signal.SIG_DFL)
     try:
-        sys.stdout.write(restrict(Task("task", sys.stdin.read()), kept).text)
+        text = sys.stdin.read()
+        if not text:
+            print("restrict: an empty text: did the command before it fail?", file=sys.stderr)
+            return REFUSED
+        sys.stdout.write(restrict(Task("task", text), kept).text)
     except (NoTask, UnicodeDecodeError):
         print(f"restrict: what is read is no task: {linter()} FILE says where it is wrong", file=sys.stderr)
         return REFUSED

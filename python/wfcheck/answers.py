@@ -5,9 +5,10 @@ import html
 import itertools
 import json
 import re
-from typing import Callable, Dict, Iterable, List, NamedTuple, Optional, Sequence, Tuple, Union
+from typing import Callable, Dict, List, NamedTuple, Optional, Sequence, Tuple, Union
 
-from .tasks import Simplex, Task
+from .arguments import a_task, a_view
+from .tasks import NoTask, Simplex, Task
 from .views import Unreadable, View, words_of
 
 FIRST, OBSTRUCTION = "wfcheck report 1", "wfcheck obstruction 1"
@@ -51,20 +52,6 @@ class Node(NamedTuple):
     name: str
     numbers: Tuple[int, ...]
     lines: Tuple[Tuple[int, ...], ...]
-
-
-# nodes of obstructions, in the order in which they are counted
-KINDS = ["split", "cover", "case", "balance"]
-
-
-def nodes_in_words(nodes: Iterable[Tuple[str, int]]) -> str:
-    """How many nodes of each kind an obstruction has, and the moduli of its balances, as `2 splits, 1 balance modulo 2`. Each node is given by
-    its name and its first number."""
-    listed = list(nodes)
-    counts = [(sum(name == kind for name, _ in listed), kind) for kind in KINDS]
-    told = ", ".join(f"{many:,} {kind}{'s' * (many > 1)}" for many, kind in counts if many)
-    moduli = sorted({number for name, number in listed if name == "balance"})
-    return f"{told} modulo {', '.join(map(str, moduli))}" if moduli else told
 
 
 class Multiplier(NamedTuple):
@@ -186,8 +173,16 @@ def cut(text: str) -> str:
 
 
 def tell(task: Task, view: View) -> str:
-    """A view of a task in words, as `wfcheck points` tells it, with the names that inputs have."""
-    return words_of(view, letter_of(task.text), task.names)
+    """A view of a task in words, as `wfcheck points` tells it, with the names that inputs have.
+
+    Raises TypeError if it is given no task or no view, and NoTask, a Mistake, if the text of the task is none."""
+    a_task(task)
+    a_view(view)
+    try:
+        letter = letter_of(task.text)
+    except (KeyError, RecursionError, TypeError, ValueError) as error:
+        raise NoTask(f"{task.name}: the text is that of no task") from error
+    return words_of(view, letter, task.names)
 
 
 @functools.lru_cache(maxsize=8)

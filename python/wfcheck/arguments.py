@@ -14,6 +14,16 @@ def a_task(given: Any) -> None:
         raise TypeError(f"the name and the text of a task are strings, and not {shown(given.name)} and {shown(given.text)}")
 
 
+def a_view(given: Any) -> None:
+    """Refuses what is no view: a process or rank with its input, or with the views that it saw."""
+    left = [given]
+    while left:
+        it = left.pop()
+        if not isinstance(it, tuple) or len(it) != 2 or type(it[0]) is not int or not isinstance(it[1], (int, tuple)) or it[1] == ():
+            raise TypeError(f"a view is (process, input) or (process, (view, ..)), and not {shown(given)}")
+        left += it[1] if isinstance(it[1], tuple) else ()
+
+
 def a_number(what: str, given: Any, least: int = 0) -> None:
     """Refuses what is no whole number from some number on."""
     if type(given) is not int:

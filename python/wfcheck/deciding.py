@@ -20,6 +20,9 @@ NAME = "task"
 EVERY, NONE, MAP, NOTHING_KNOWN, REFUSED = "every", "none", "map", "not decided", "refused"
 # what the names of proofs end in, and which have hints
 PROOFS = {"drat": False, "lrat": True}
+# what `python3 -m wfcheck` does, with bytecode where the commands keep theirs
+START = ("import sys; sys.dont_write_bytecode = True; from wfcheck import bytecode; bytecode.keep(); from wfcheck.__main__ import main; "
+         "sys.exit(main(sys.argv[1:]))")
 # the statuses with which `ask` ends that has gone through its questions
 ENDED = (0, 1, 3)
 
@@ -90,7 +93,7 @@ def asked(task: Task, words: List[str], folder: pathlib.Path) -> Asked:
     surroundings = {**os.environ, VARIABLE: str(program())}
     surroundings["PYTHONPATH"] = os.pathsep.join([str(FOLDER), *filter(None, [os.environ.get("PYTHONPATH")])])
     file, keep, table = write(Task(NAME, task.text), folder), folder / "keep", folder / "table"
-    command = [sys.executable, "-B", "-m", "wfcheck", "ask", str(file), *words, f"--keep={keep}", f"--table={table}"]
+    command = [sys.executable, "-c", START, "ask", str(file), *words, f"--keep={keep}", f"--table={table}"]
     ended = subprocess.run(command, env=surroundings, stdin=subprocess.DEVNULL, capture_output=True, check=False)
     ran = Ran(ended.returncode, ended.stdout.decode(errors="replace"), ended.stderr.decode(errors="replace"))
     if ran.status not in ENDED or not table.is_file():

@@ -2,11 +2,31 @@
 from __future__ import annotations
 
 import errno
+import io
 import os
+import re
 import stat
+import sys
 from typing import BinaryIO, Union
 
 Path = Union[str, "os.PathLike[str]"]
+# how many bytes of a task file are read
+LONGEST = 16_777_216
+# what would break a line, and bytes of a name that are no text
+BREAKS = "[\x00-\x1f\x7f-\x9f\u2028\u2029\ud800-\udfff]"
+
+
+def in_line(text: str) -> str:
+    """A name without what would break a line or can't be written."""
+    return re.sub(BREAKS, "_", text)
+
+
+
+def any_text_can_be_written() -> None:
+    """Has standard output and standard error show what they can't write as it is, as a file's name of bytes that are no text."""
+    for stream in (sys.stdout, sys.stderr):
+        if isinstance(stream, io.TextIOWrapper):
+            stream.reconfigure(errors="backslashreplace")
 
 
 def opened(path: Path) -> BinaryIO:

@@ -24,10 +24,13 @@ import signal
 import sys
 from typing import Any, Callable, Dict, Iterator, List, Optional, Sequence, Set, Tuple
 
+from .files import any_text_can_be_written
 from .task_file import LONGEST, Refused, Simplex, complex_of, faces, read, shown, simplex_of
 
 # how many notes are told without --all
 TOLD = 10
+# the refusals of a task that has too many inputs, of which a part can be asked about
+PARTS = ("8 TooMany simplices", "8 TooMany vertices")
 Rules = Dict[Simplex, Set[Tuple[int, ...]]]
 
 
@@ -112,6 +115,7 @@ def main(listed: List[str], name: str) -> int:
     # Python's own status for a closed pipe would mean a slip
     signal.signal(signal.SIGPIPE, signal.SIG_DFL)
     asked = parser(name).parse_args(listed)
+    any_text_can_be_written()
     try:
         with open(asked.task, "rb") as file:
             text = file.read(LONGEST + 1)
@@ -120,7 +124,8 @@ def main(listed: List[str], name: str) -> int:
         print(f"{name}: {asked.task} can't be read: {error.strerror}", file=sys.stderr)
         return 2
     except Refused as refused:
-        print(f"refused, {refused.line}: {refused.words}")
+        part = ". Ask about some of the inputs: if these have no map, the whole has none" if refused.line in PARTS else ""
+        print(f"refused, {refused.line}: {refused.words}{part}")
         return 2
     twice = (f'the key "{key}" is written twice in one place, and the last value counts' for key in written_twice(text))
     found = [f"slip: {it}" for it in [*twice, *slips(value, rules)]]

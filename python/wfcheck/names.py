@@ -4,14 +4,19 @@ A task file and the program know numbers alone. Names stand in a file of their o
 and are put in the place of the numbers of a text that the program wrote: of `wfcheck points`, or of a refutation in words."""
 import json
 import re
-from typing import Any, Dict, Mapping, NamedTuple, Optional, Tuple
+from typing import Any, Dict, List, Mapping, NamedTuple, Optional, Tuple
 
 Pairs = Tuple[Tuple[int, str], ...]
 LONGEST = 60
 ENDING = ".names.json"
 NUMBER = re.compile(r"0|[1-9]\d*", re.A)
-# the first line of an obstruction in words, which keeps its numbers
+# the first line of an obstruction in words
 EVERY = "No decision map after any number of rounds"
+# tuples in a list, and where an obstruction in words has them, single values and inputs. New names, which a split gives to values, are numbers
+# above all values of the task, so none of these has a name
+TUPLES = r"\d+(?: \d+)*(?:(?:, | or )\d+(?: \d+)*)*"
+COUNTED = (rf"(?m)([p#]\d+=)(\d+)|( decides? |\bPart \d+: )({TUPLES})(?= as often on |\.|, or one of )|"
+           rf"^( *)(\d+)( of [p#]\d+ is called \d+ in )({TUPLES})|(\bfrom )(\d+)( of [p#]\d+ to )(\d+)(?= of )")
 # numbers in a list of values, which may have ranges
 LISTED = r"\d+(?: to \d+)?(?:(?:, | or )\d+(?: to \d+)?)*"
 # where a text has an input, behind the process or rank; and where it has values
@@ -72,9 +77,11 @@ def read_names(text: str) -> Names:
 
 
 def told(text: str, names: Names) -> str:
-    """A text of `wfcheck points` or `wfcheck explain` with these names in the place of the numbers. An obstruction in words stays as it is."""
-    if names == Names() or text.startswith(EVERY):
+    """A text of `wfcheck points` or `wfcheck explain` with these names in the place of the numbers."""
+    if names == Names():
         return text
+    if text.startswith(EVERY):
+        return told_of_all(text, names)
     values, inputs = dict(names.values), dict(names.inputs)
 
     def named(found: "re.Match[str]") -> str:
@@ -85,3 +92,30 @@ def told(text: str, names: Names) -> str:
         return head + DIGITS.sub(lambda it: values.get(int(it[0]), it[0]), found[0][len(head):])
 
     return PART.sub(named, text)
+
+
+def told_of_all(text: str, names: Names) -> str:
+    """An obstruction in words with these names in the place of the numbers. Of several values the tuple stands in brackets."""
+    def value(number: str) -> str:
+        """A value by its name."""
+        return names.value(int(number))
+
+    def tuples(listed: str) -> str:
+        """A list of tuples by names."""
+        return re.sub(r"\d+(?: \d+)*", lambda it: tuple_of(it[0].split(" ")), listed)
+
+    def tuple_of(numbers: List[str]) -> str:
+        """A tuple by names."""
+        return value(numbers[0]) if len(numbers) == 1 else f"({', '.join(map(value, numbers))})"
+
+    def named(found: "re.Match[str]") -> str:
+        """What one place of the text has, by names."""
+        if found[1]:
+            return found[1] + names.input(int(found[2]))
+        if found[3]:
+            return found[3] + tuples(found[4])
+        if found[6]:
+            return found[5] + value(found[6]) + found[7] + tuples(found[8])
+        return found[9] + value(found[10]) + found[11] + value(found[12])
+
+    return re.sub(COUNTED, named, text)

@@ -2,13 +2,13 @@
 
     wfcheck explain --task mine.json < none.txt | wfcheck-names mine.json
 
-The numbers of values and inputs are replaced by the names in mine.names.json, which stands beside the task file. All else is copied. An
-obstruction in words keeps its numbers."""
+The numbers of values and inputs are replaced by the names in mine.names.json, which stands beside the task file. All else is copied."""
 import argparse
 import signal
 import sys
 from typing import List
 
+from . import files
 from .names import Names, told
 from .running import Error
 from .tasks import read
@@ -28,10 +28,14 @@ def main(listed: List[str], name: str) -> int:
     """Copies standard input with names, and returns the status."""
     signal.signal(signal.SIGPIPE, signal.SIG_DFL)
     asked = parser(name).parse_args(listed)
+    files.any_text_can_be_written()
     try:
         names, text = read(asked.task).names, sys.stdin.read()
     except (Error, UnicodeDecodeError) as error:
         print(f"{name}: {error}", file=sys.stderr)
+        return REFUSED
+    if not text:
+        print(f"{name}: an empty text: did the command before it fail?", file=sys.stderr)
         return REFUSED
     if names == Names():
         print(f"{name}: no names stand beside {asked.task}", file=sys.stderr)

@@ -2,7 +2,8 @@
 import dataclasses
 from typing import Optional, Union
 
-from .answers import Map, Obstruction, Proof, Refutation, nodes_in_words
+from .answers import Map, Obstruction, Proof, Refutation
+from .nodes import nodes_in_words
 from .tasks import Task
 
 # what shows that there is no map after some rounds

@@ -5,12 +5,14 @@ from typing import Any, Dict, List, Optional, Union
 from . import arguments
 from .answers import Answer, Map, Obstruction, Proof, Refutation, obstruction_of, report_of, text_of
 from .names import told
-from .running import Ran, Word, run
+from .running import Ran, Refused, Word, run
 from .tasks import Mistake, Task, write
 from .views import View, points_of
 
 # the name of a task in the folder of a run, whatever it is called
 NAME = "task"
+# the refusal of an obstruction of a task with a first block
+FIRST_BLOCK = 50
 
 
 def about(task: Task, words: List[Word], text: str, seconds: Optional[float] = None) -> Ran:
@@ -32,6 +34,8 @@ def an_answer(given: Any) -> None:
     """Refuses what is no answer and no text of one."""
     if not isinstance(given, (Map, Refutation, Proof, Obstruction, str)):
         raise TypeError(f"an answer is a Map, Refutation, Proof or Obstruction, or the text of one, and not {arguments.shown(given)}")
+    if given == "":
+        raise Mistake("an empty text is no answer: did the command fail that was to write it?")
 
 
 def solve(task: Task, rounds: int, *, workers: int = 1, least: bool = False, lines: bool = True,
@@ -120,7 +124,8 @@ def obstruction(task: Task, modulus: Optional[int] = None, covers: int = 0, *, s
     """An obstruction of a task, accepted by `wfcheck verify`, or None. At most so many covers stand above one another, from 0 to 8. That
     none is found says nothing about the task.
 
-    Raises Refused where the search gives up, and of a task with a first block."""
+    For a task with a first block above 1 none is looked for, and Refused says so: a balance counts executions that such a task has not.
+    `ask` then decides one number of rounds after another. Raises Refused also where the search gives up."""
     judged(task, seconds)
     if modulus is not None:
         arguments.a_number("a modulus", modulus, 2)
@@ -128,7 +133,13 @@ def obstruction(task: Task, modulus: Optional[int] = None, covers: int = 0, *, s
     asked: List[Word] = ["obstruction"]
     asked += [] if modulus is None else ["--modulus", modulus]
     asked += ["--covers", covers] if covers else []
-    ran = run(asked, task.text, seconds)
+    try:
+        ran = run(asked, task.text, seconds)
+    except Refused as refused:
+        if refused.number != FIRST_BLOCK:
+            raise
+        raise Refused(refused.number, refused.words, [*refused.notes, "no obstruction is looked for with a first block above 1: `ask` decides "
+                                                      "one number of rounds after another"]) from None
     if ran.status:
         return None
     verify(task, ran.written, seconds=seconds)

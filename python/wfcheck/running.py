@@ -1,26 +1,27 @@
 """The program `wfcheck`: where it is, and one run of it."""
 import functools
-import hashlib
 import os
 import pathlib
 import re
-import shutil
-import subprocess
 import sys
 from typing import NamedTuple, Optional, Sequence, Union
 
-TOP = pathlib.Path(__file__).resolve().parent.parent.parent
+HERE = pathlib.Path(__file__).resolve()
+TOP = HERE.parent.parent.parent
 VARIABLE, NAME = "WFCHECK", "wfcheck"
 # where `make build` leaves the program, and where `make install` puts it beside share/wfcheck
 PLACES = [TOP / "bin" / NAME, *([TOP.parent.parent / "bin" / NAME] if TOP.parts[-2:] == ("share", NAME) else [])]
+# where a wheel puts it that has it: ENV/bin, if the module is in ENV/lib/pythonX.Y/site-packages
+PACKAGES = HERE.parent.parent
+BESIDE = PACKAGES.parents[2] / "bin" / NAME if PACKAGES.name in ("site-packages", "dist-packages") and len(PACKAGES.parents) > 2 else None
 RELEASED = TOP / "release" / NAME
 # a line of PROVENANCE that names a program's bytes
-SHA = re.compile(r"^([0-9a-f]{64}) [ *](\S+)$", re.M)
+SHA = r"(?m)^([0-9a-f]{64}) [ *](\S+)$"
 # in seconds: how long a program may take to say which one it is
 SECONDS = 10
 TO_DO = f"set {VARIABLE} to the file of the program, put {NAME} on the path, or get a clone, where release/ has it and `make build` makes it"
 # a refusal with the notes below it
-REFUSAL = re.compile(r"^wfcheck: (\d+) (.*)((?:\n  note: .*)*)", re.M)
+REFUSAL = r"(?m)^wfcheck: (\d+) (.*)((?:\n  note: .*)*)"
 # the statuses of an answer: a map or an acceptance, and none
 ANSWERS = (0, 1)
 Word = Union[str, int, pathlib.Path]
@@ -62,7 +63,7 @@ class Ran(NamedTuple):
 
 def program() -> pathlib.Path:
     """The file of the program, which is the first of these: what the variable WFCHECK names; bin/wfcheck of this repository or installation;
-    release/wfcheck of this repository; `wfcheck` on the path.
+    release/wfcheck of this repository; the one that came in a wheel with the module; `wfcheck` on the path.
 
     Raises NoProgram if there is none, and says what to do."""
     if named := os.environ.get(VARIABLE):
@@ -72,6 +73,9 @@ def program() -> pathlib.Path:
             return built
     if RELEASED.is_file():
         return released(RELEASED)
+    if BESIDE and BESIDE.is_file():
+        return judged(BESIDE, f"{BESIDE} is beside the module")
+    import shutil
     if found := shutil.which(NAME):
         return judged(pathlib.Path(found).absolute(), f"{found} is the first {NAME} on the path")
     raise NoProgram(f"there is no program {NAME}: {TO_DO}")
@@ -80,6 +84,7 @@ def program() -> pathlib.Path:
 @functools.lru_cache(maxsize=None)
 def judged(path: pathlib.Path, why: str) -> pathlib.Path:
     """A file that has to be the program, by what it says of itself."""
+    import subprocess
     if not path.is_file():
         raise NoProgram(f"{why}, which is no file: {TO_DO}")
     try:
@@ -97,8 +102,9 @@ def judged(path: pathlib.Path, why: str) -> pathlib.Path:
 @functools.lru_cache(maxsize=None)
 def released(path: pathlib.Path) -> pathlib.Path:
     """The released program, told on standard error once, if it is the file whose SHA-256 stands in PROVENANCE."""
+    import hashlib
     try:
-        wanted = SHA.findall(path.with_name("PROVENANCE").read_text(encoding="utf-8"))
+        wanted = re.findall(SHA, path.with_name("PROVENANCE").read_text(encoding="utf-8"))
         found = hashlib.sha256(path.read_bytes()).hexdigest()
     except OSError as error:
         raise NoProgram(f"release/{NAME} can't be taken ({error}): {TO_DO}") from error
@@ -119,6 +125,7 @@ def run(words: Sequence[Word], given: str, seconds: Optional[float] = None) -> R
 
     Raises Refused with the number and the words of a refusal, NoAnswer if the program ends without an answer, and ValueError if a number
     is negative."""
+    import subprocess
     for word in words:
         if isinstance(word, int) and word < 0:
             raise ValueError(f"{word} is negative: rounds and workers are not")
@@ -136,7 +143,7 @@ def run(words: Sequence[Word], given: str, seconds: Optional[float] = None) -> R
 
 def refusal(said: str) -> Optional[Refused]:
     """The refusal that a text tells of, or None."""
-    found = REFUSAL.search(said)
+    found = re.search(REFUSAL, said)
     if not found:
         return None
     notes = found[3].replace(f"`{NAME}-lint FILE` (in the repository tools/lint.py)", f"`{linter()} FILE`").split("\n  note: ")[1:]

@@ -4,7 +4,7 @@
     wfcheck-task --all       writes all of them
     wfcheck-task --list      says their names, and writes nothing
 
-A file goes to the current folder, or to the one that --folder names. A file that is there and says something else is left as it is, and
+A file goes to the current folder, or to the one that --folder names, which is made if it is not there. A file that is there and says something else is left as it is, and
 the status is 2. In the repository tools/tasks.py is this command: it writes into gallery/tasks, over what is there.
 
 `from wfcheck import task, write` makes a task of your own from a predicate, as the page docs/TASKS.md says."""
@@ -14,6 +14,7 @@ import signal
 import sys
 from typing import List, Optional
 
+from .files import any_text_can_be_written
 from .gallery import gallery
 from .tasks import Task
 
@@ -37,6 +38,7 @@ def main(listed: List[str], name: str, folder: Optional[pathlib.Path] = None) ->
     """Writes what the words say, and returns the status. Files go to the folder that is given, over what is there; without one they go to
     the current folder, over nothing."""
     signal.signal(signal.SIGPIPE, signal.SIG_DFL)
+    any_text_can_be_written()
     words = parser(name)
     asked = words.parse_args(listed)
     if asked.all == bool(asked.names) and not asked.list:
@@ -50,6 +52,11 @@ def main(listed: List[str], name: str, folder: Optional[pathlib.Path] = None) ->
         return 0
     is_over = folder is not None and asked.folder is None
     to = asked.folder or folder or pathlib.Path()
+    try:
+        to.mkdir(parents=True, exist_ok=True)
+    except OSError as error:
+        print(f"{name}: {to}: {error.strerror}", file=sys.stderr)
+        return REFUSED
     return max([written(each, to, is_over, name) for each in chosen])
 
 

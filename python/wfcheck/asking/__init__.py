@@ -29,6 +29,7 @@ The file of a task is read once, and all is about these bytes. If the file has c
     --keep     a folder for what was accepted: the obstruction (TASK.obstruction), the solver's proof (.drat, or .lrat with hints), its model (.said or .out)
                and the report of that (.map), the search's report (.report), or that of a map of fewer rounds (.lifted). Nothing that is
                there is written over: the next free name is taken
+    --show     prints what was accepted: a map as rules, or as points if it has no few rules, and else the argument why there is none
     --table    a file to which a line is appended for each number of rounds that was asked, and one for `never`, with tabs between the task, the
                rounds, the answer, the kind, bytes and SHA-256 of its certificate, and the seconds; before the first a line of these names
     --no-obstruction

@@ -1,7 +1,6 @@
 """The script of an array of jobs for tools/ask: each job asks a share of a question's branches, on a cluster with one of these engines."""
 from __future__ import annotations
 
-import argparse
 import json
 import math
 import pathlib
@@ -9,6 +8,7 @@ import re
 import shlex
 from typing import List
 
+from .asked import Words
 from .runs import Refused
 
 # how many jobs there are where --jobs doesn't say: a job costs an engine seconds, and Slurm refuses arrays above 1,001 if it isn't told
@@ -24,7 +24,7 @@ PLAIN = re.compile(r"[\w./+@=-]+", re.A)
 class Job:
     """What the script of each engine says: the command, how many jobs there are, and what each of them takes."""
 
-    def __init__(self, words: argparse.Namespace, solver: str, count: int) -> None:
+    def __init__(self, words: Words, solver: str, count: int) -> None:
         self.count = min(count, words.jobs or JOBS)
         self.name = re.sub("[^a-z0-9]+", "-", f"ask-{words.task.stem}-{words.rounds[0]}".lower())[:50].strip("-")
         self.folder, self.keep = pathlib.Path.cwd(), words.keep.resolve()
@@ -32,7 +32,7 @@ class Job:
         self.seconds = math.ceil((math.ceil(count / self.count) + OTHERS) * words.seconds + BEGIN)
         self.memory = math.ceil(words.memory + SCRIPT)
 
-    def words_of(self, words: argparse.Namespace, solver: str) -> str:
+    def words_of(self, words: Words, solver: str) -> str:
         """The command, with all that was said or found here: its solver by its path, its limits, and no --jobs, since a job asks one by one."""
         command = [*words.command, words.given.file.resolve(), words.rounds[0], "--keep", self.keep]
         command += [f"--seconds={words.seconds:g}", f"--memory={words.memory:g}", f"--disk={words.disk:g}", f"--clauses={words.clauses}"]
@@ -105,6 +105,6 @@ def kubernetes(job: Job) -> str:
 SYSTEMS = {it.__name__: it for it in (slurm, pbs, sge, lsf, kubernetes)}
 
 
-def array(words: argparse.Namespace, solver: str, count: int) -> str:
+def array(words: Words, solver: str, count: int) -> str:
     """The script for the batch system that was named."""
     return SYSTEMS[words.array](Job(words, solver, count))

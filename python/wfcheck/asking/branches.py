@@ -1,7 +1,6 @@
 """A question branch by branch, for tools/ask: each is a job of its own, and what is accepted of one is noted in the folder of --keep."""
 from __future__ import annotations
 
-import argparse
 import functools
 import os
 import pathlib
@@ -13,13 +12,14 @@ import threading
 from typing import Any, Collection, Dict, List, NamedTuple, Optional, Sequence, Tuple
 
 from . import arrays, given, pool, table
+from .asked import Words
 from .cases import Cases
 from .notes import Note, Notes, Room, digest, placed
 from .pool import shown
 from .questions import SEARCH_ALONE, WITHOUT_LINES, Answer, Attempt, Question, answered
 from .runs import Clock, Late, Refused, Scope, Undecided, say
+from .summary import STATUS
 
-STATUS = {"map": 0, "none": 1, None: 3}
 # what share of the points is open in a branch that is nearly as large as the whole
 LARGE, OPEN = 0.9, re.compile(r"^branch \d+ (\d+) \d+$", re.M)
 # among so many of the lowest branches runs begin at different places
@@ -29,7 +29,7 @@ WINDOW = 16
 class Branches:
     """The branches of one question, with what is known of them."""
 
-    def __init__(self, words: argparse.Namespace, solver: Optional[str], room: Room, count: int) -> None:
+    def __init__(self, words: Words, solver: Optional[str], room: Room, count: int) -> None:
         self.words, self.solver, self.room, self.count = words, solver, room, count
         self.rounds, self.chosen = words.rounds[0], chosen_of(words, count)
         self.notes = Notes(words.keep)
@@ -235,7 +235,7 @@ class Listed(NamedTuple):
         return f"nearly all of the {self.points:,} points are open in {self.large} of {self.branches} branches: each may take as long as the whole"
 
 
-def listed(words: argparse.Namespace) -> Listed:
+def listed(words: Words) -> Listed:
     """What `wfcheck branches` lists, and what the program says of itself."""
     scope, clock = Scope(words.limits), Clock(words.seconds)
     with tempfile.TemporaryDirectory() as made:
@@ -289,7 +289,7 @@ def of_chosen(branches: Branches) -> Tuple[str, int]:
     return text, 0 if maps or len(decided) == len(chosen) else STATUS[None]
 
 
-def chosen_of(words: argparse.Namespace, count: int) -> Sequence[int]:
+def chosen_of(words: Words, count: int) -> Sequence[int]:
     """The branches that are asked."""
     if words.branch is not None:
         if not 0 <= words.branch < count:
@@ -298,19 +298,19 @@ def chosen_of(words: argparse.Namespace, count: int) -> Sequence[int]:
     return range(words.share[0], count, words.share[1]) if words.share else range(count)
 
 
-def write_array(words: argparse.Namespace, solver: str, question: Listed) -> None:
+def write_array(words: Words, solver: str, question: Listed) -> None:
     """Writes the script of an array of jobs."""
     if not question.branches:
         raise Refused("there is no branch, so no array is needed: ask without --array")
     if question.is_doubtful():
         print(question.doubt(), file=sys.stderr)
     script = arrays.array(words, solver, question.branches)
-    if given.digest_of(words.given.file) != words.given.digest:
+    if not given.has(words.given.file, words.given.text):
         raise Undecided(f"{words.given.file} has changed during this run, and the jobs would read it anew")
     print(script)
 
 
-def main(words: argparse.Namespace, solver: Optional[str], clock: Clock) -> int:
+def main(words: Words, solver: Optional[str], clock: Clock) -> int:
     """Asks about branches, or looks at what is known of them, and returns the status."""
     question = listed(words)
     if words.array:
@@ -346,7 +346,7 @@ def main(words: argparse.Namespace, solver: Optional[str], clock: Clock) -> int:
         return ended(words, text, answer)
 
 
-def ended(words: argparse.Namespace, text: str, answer: Optional[str]) -> int:
+def ended(words: Words, text: str, answer: Optional[str]) -> int:
     """Says what all comes to, and returns the status."""
     words.given.close()
     say(f"    {text}")

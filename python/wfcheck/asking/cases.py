@@ -3,7 +3,6 @@ each case, and one proof is composed of the proofs of all. The folder of --keep 
 that is begun again asks about the other cases alone."""
 from __future__ import annotations
 
-import argparse
 import contextlib
 import functools
 import glob
@@ -13,6 +12,7 @@ import re
 from typing import List, Optional
 
 from . import composing, pool
+from .asked import Words
 from .composing import Case, CaseProof, NoSteps
 from .notes import Room
 from .questions import Answer, Attempt, NoFormula, Question, solver_name
@@ -49,7 +49,7 @@ class CaseAttempt(Attempt):
 class Cases:
     """The cases of one question, with what is known of them."""
 
-    def __init__(self, words: argparse.Namespace, solver: str, room: Room, whole: Attempt) -> None:
+    def __init__(self, words: Words, solver: str, room: Room, whole: Attempt) -> None:
         self.words, self.solver, self.room, self.whole = words, solver, room, whole
         # the answer of a case that has a map, and the cases that had no end in their time
         self.map: Optional[Answer] = None

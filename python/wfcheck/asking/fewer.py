@@ -6,14 +6,14 @@ from __future__ import annotations
 import itertools
 import json
 import re
-from typing import Dict, Iterable, Iterator, List, NamedTuple, Optional, Sequence, Set, Tuple
+from typing import Any, Dict, Iterable, Iterator, List, NamedTuple, Optional, Sequence, Set, Tuple
 
 from ..running import Error
 from ..tasks import Task, read, restrict, write
 from .questions import SHARE, Answer, Attempt, Question
 from .runs import Clock, Late, say
 
-NONE, HEADER = 1, 6
+MAP, NONE, HEADER = 0, 1, 6
 EXECUTION = re.compile(r"\d+ ([^;:]*)(?: ; [^:]*)? : ([\d ]+)\n")
 PROCESS = re.compile(r"p(\d)")
 # what reading a file may raise that has no task: the program says what is wrong with it
@@ -27,29 +27,35 @@ class Execution(NamedTuple):
     points: Tuple[int, ...]
 
 
-def none_of_fewer(attempt: Attempt) -> Optional[Answer]:
-    """The refutation of the whole by that of some processes, the fewest first. The search has a short share of the time."""
+def none_of_fewer(attempt: Attempt, with_map: Set[Tuple[int, ...]]) -> Optional[Answer]:
+    """The refutation of the whole by that of some processes, the fewest first. The search has a short share of the time. Those that have a
+    map are added to a set, and not asked about more rounds again."""
     clock = Clock(attempt.clock.seconds * SHARE)
     try:
         whole = read(attempt.question.task)
-        for kept in some_of(json.loads(whole.text)["processes"]):
-            if answer := of_some(attempt, whole, kept, clock):
+        for kept in some_of(json.loads(whole.text)):
+            if kept not in with_map and (answer := of_some(attempt, whole, kept, clock, with_map)):
                 return answer
     except (Late, Error, *NO_TASK):
         pass
     return None
 
 
-def some_of(processes: int) -> List[Tuple[int, ...]]:
-    """Some of the processes and not all, the fewest first."""
-    return [some for size in range(1, processes) for some in itertools.combinations(range(processes), size)]
+def some_of(task: Dict[str, Any]) -> List[Tuple[int, ...]]:
+    """Some of the processes and not all, the fewest first. One alone is left out if it may decide something from each input: then it has a
+    map."""
+    processes = range(task["processes"])
+    stuck = {it["in"][0][0] for it in task["delta"] if len(it["in"]) == 1 and not it["out"]}
+    return [some for size in range(1, len(processes)) for some in itertools.combinations(processes, size) if size > 1 or some[0] in stuck]
 
 
-def of_some(attempt: Attempt, whole: Task, kept: Sequence[int], clock: Clock) -> Optional[Answer]:
+def of_some(attempt: Attempt, whole: Task, kept: Tuple[int, ...], clock: Clock, with_map: Set[Tuple[int, ...]]) -> Optional[Answer]:
     """The refutation of the whole by that of these processes, where the search has one and `verify` accepts what it gives."""
     small, rounds = restrict(whole, kept), attempt.question.rounds
     some = Attempt(Question(write(small, attempt.folder), rounds), attempt.folder, attempt.scope, clock)
-    ended = some.wfcheck(["solve", "--rounds", rounds, "--workers", 1], some.question.task, some.file("report"))
+    ended = some.scope.at_once_or_later(some.search(), clock, some.question.task, some.file("report"))
+    if ended.status == MAP:
+        with_map.add(kept)
     if ended.status != NONE:
         return None
     who = f"the search on {' and '.join(f'p{it}' for it in kept)}"
@@ -69,7 +75,7 @@ def of_some(attempt: Attempt, whole: Task, kept: Sequence[int], clock: Clock) ->
 def executions(attempt: Attempt, clock: Clock) -> List[Execution]:
     """The executions of an attempt's question, as `wfcheck executions` lists them."""
     listed = attempt.file("executions")
-    attempt.scope.wfcheck(["executions", "--rounds", attempt.question.rounds], clock, attempt.question.task, listed)
+    attempt.scope.at_once_or_later(["executions", "--rounds", attempt.question.rounds], clock, attempt.question.task, listed)
     with open(listed) as text:
         return [execution for number, line in enumerate(text) for execution in read_execution(number, line)]
 

@@ -2,42 +2,46 @@
 of this run, so that a file that changes meanwhile can't mix the answers of two tasks. Before the last line the file is compared."""
 from __future__ import annotations
 
-import hashlib
+import os
 import pathlib
-import re
-from typing import Optional
 
 from .. import files
-from ..tasks import LONGEST
+from ..files import LONGEST, in_line
 from .runs import Undecided, say
 
-# what would break the lines of notes and of the answer
-BREAKS = re.compile(r"[\x00-\x1f\x7f\x85\u2028\u2029]")
+# how many bytes of a name count: behind it stand the rounds, the branch, a number and the kind of a file
+MOST_OF_NAME = 180
 
 
 class Given:
     """The file that was named, and the copy of its first bytes that were read."""
 
     def __init__(self, file: pathlib.Path, folder: pathlib.Path) -> None:
-        self.file, self.copy = file, folder / in_line(file.name)
-        text = read(file)
-        self.digest = hashlib.sha256(text).hexdigest()
-        self.copy.write_bytes(text)
+        self.file, self.copy = file, folder / short(file.name)
+        # the copy is compared with these bytes
+        self.text = read(file)
+        self.copy.write_bytes(self.text)
         self.is_told = False
+
+    def judge(self) -> None:
+        """Raises Undecided if the copy was changed."""
+        if not has(self.copy, self.text):
+            raise Undecided("the copy of the task that this run worked on was changed: nothing that was said of the task counts")
 
     def close(self) -> None:
         """Says before the last line whether the file has changed. Raises Undecided if the copy has: then nothing that was said counts."""
-        if digest_of(self.copy) != self.digest:
-            raise Undecided("the copy of the task that this run worked on was changed: nothing that was said of the task counts")
-        if digest_of(self.file) != self.digest and not self.is_told:
+        self.judge()
+        if not self.is_told and not has(self.file, self.text):
+            import hashlib
             self.is_told = True
             say(f"    {in_line(str(self.file))} has changed during this run: the answer is about the bytes that were read first, with SHA-256 "
-                f"{self.digest}")
+                f"{hashlib.sha256(self.text).hexdigest()}")
 
 
-def in_line(text: str) -> str:
-    """A name without what would break a line."""
-    return BREAKS.sub("_", text)
+def short(name: str) -> str:
+    """A file's name as files of this run begin with it: without what breaks a line, and cut if it is long."""
+    stem, kind = os.path.splitext(in_line(name))
+    return (stem if len(stem.encode()) <= MOST_OF_NAME else stem.encode()[:MOST_OF_NAME].decode(errors="ignore")) + kind
 
 
 def read(file: pathlib.Path) -> bytes:
@@ -46,9 +50,9 @@ def read(file: pathlib.Path) -> bytes:
         return text.read(LONGEST + 1)
 
 
-def digest_of(file: pathlib.Path) -> Optional[str]:
-    """The SHA-256 of a task's file; None if it can't be read."""
+def has(file: pathlib.Path, text: bytes) -> bool:
+    """Whether a task's file has these bytes. One that can't be read has none."""
     try:
-        return hashlib.sha256(read(file)).hexdigest()
+        return read(file) == text
     except OSError:
-        return None
+        return False

@@ -6,7 +6,7 @@ import pathlib
 from typing import Optional, Sequence
 
 from .. import files
-from .given import in_line
+from ..files import in_line
 from .questions import Answer, Attempt
 from .runs import say
 

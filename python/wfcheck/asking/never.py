@@ -2,13 +2,13 @@
 none without, and `wfcheck verify` has to accept it. If none is found, that says nothing about the task."""
 from __future__ import annotations
 
-import argparse
 import pathlib
 import re
 from typing import List
 
-from ..answers import nodes_in_words
+from ..nodes import nodes_in_words
 from . import table
+from .asked import Words
 from .notes import Room, keep
 from .questions import answered
 from .runs import Clock, Ended, Late, Refused, Scope, say
@@ -18,27 +18,30 @@ FIRST_BLOCK, GAVE_UP = "wfcheck: 50 FirstBlock", "wfcheck: 60 GaveUp"
 # the options with which an obstruction is looked for in turn
 OPTIONS: List[List[str]] = [[], ["--covers", "1"]]
 NONE_FOUND = 1
-NODE = re.compile(r"^(case|split|cover|balance) (\d+)", re.M)
+NODE = r"(?m)^(case|split|cover|balance) (\d+)"
 
 
-def is_never(words: argparse.Namespace) -> bool:
+def is_never(words: Words) -> bool:
     """Whether an obstruction of the task is found and accepted. It has as much time as a number of rounds."""
-    with Room(words.keep) as room, room.attempt() as made:
+    # the folder that keeps may be full, and then what is found is told all the same
+    with Room(None) as room, room.attempt() as made:
         file, scope, clock = made / f"{words.task.stem}.obstruction", Scope(words.limits), Clock(words.seconds)
         found = answered("wfcheck obstruction", lambda: is_found(words, file, scope, clock))
+        if found:
+            words.accepted = file.suffix, file.read_bytes() if words.show else None
         if found and words.keep:
-            keep(file, words.keep)
+            keep(file, words.keep, words.kept)
         if found:
             note(words, file, clock)
     return bool(found)
 
 
-def note(words: argparse.Namespace, file: pathlib.Path, clock: Clock) -> None:
+def note(words: Words, file: pathlib.Path, clock: Clock) -> None:
     """Notes an obstruction that was accepted in the table."""
     words.table.add(words.task, table.EVERY, "never", words.table.of_file(file), clock.taken())
 
 
-def is_kept(words: argparse.Namespace) -> bool:
+def is_kept(words: Words) -> bool:
     """Whether the folder of --tally or --recheck has an obstruction of the task, and it is accepted."""
     file = words.keep / f"{words.task.stem}.obstruction"
     if not file.is_file():
@@ -51,7 +54,7 @@ def is_kept(words: argparse.Namespace) -> bool:
     return bool(accepted)
 
 
-def is_found(words: argparse.Namespace, file: pathlib.Path, scope: Scope, clock: Clock) -> bool:
+def is_found(words: Words, file: pathlib.Path, scope: Scope, clock: Clock) -> bool:
     """Whether an obstruction is found and accepted: without covers, or else with one."""
     ended = None
     for options in OPTIONS:
@@ -60,13 +63,13 @@ def is_found(words: argparse.Namespace, file: pathlib.Path, scope: Scope, clock:
     return ended is not None and ended.status == 0 and is_accepted(words, file, scope, clock)
 
 
-def sought(words: argparse.Namespace, file: pathlib.Path, scope: Scope, clock: Clock, options: List[str]) -> Ended:
+def sought(words: Words, file: pathlib.Path, scope: Scope, clock: Clock, options: List[str]) -> Ended:
     """How the program ended that looked for an obstruction with these options. Nothing is said if it refuses a task with a first block."""
     asked = ["obstruction", *options]
     head = [] if options else [f"{words.task.stem} after every number of rounds:"]
     file.unlink(missing_ok=True)
     try:
-        ended = scope.wfcheck(asked, clock, words.task, file)
+        ended = scope.at_once_or_later(asked, clock, words.task, file)
     except Late:
         say("\n".join([*head, f"    wfcheck {' '.join(asked)}: no end within the {clock.seconds:g} s that the obstruction has"]))
         raise
@@ -78,10 +81,10 @@ def sought(words: argparse.Namespace, file: pathlib.Path, scope: Scope, clock: C
     return ended
 
 
-def is_accepted(words: argparse.Namespace, file: pathlib.Path, scope: Scope, clock: Clock) -> bool:
+def is_accepted(words: Words, file: pathlib.Path, scope: Scope, clock: Clock) -> bool:
     """Whether `verify` accepts an obstruction of the task; then there is no map, and the last line says so."""
     try:
-        ended = scope.wfcheck(["verify", f"--task={words.task}"], clock, file)
+        ended = scope.at_once_or_later(["verify", f"--task={words.task}"], clock, file)
     except Late:
         say(f"    wfcheck verify: no end within the {clock.seconds:g} s that the obstruction has")
         raise
@@ -97,4 +100,4 @@ def is_accepted(words: argparse.Namespace, file: pathlib.Path, scope: Scope, clo
 
 def in_words(file: pathlib.Path) -> str:
     """How many nodes of each kind an obstruction has, and the moduli of its balances."""
-    return nodes_in_words((name, int(number)) for name, number in NODE.findall(file.read_text(errors="replace")))
+    return nodes_in_words((name, int(number)) for name, number in re.findall(NODE, file.read_text(errors="replace")))

@@ -7,9 +7,8 @@ its SHA-256. It is trusted only while that very certificate is there; so a note 
 from __future__ import annotations
 
 import contextlib
+import errno
 import fcntl
-import hashlib
-import itertools
 import os
 import pathlib
 import re
@@ -17,7 +16,7 @@ import shutil
 import stat
 import tempfile
 import time
-from typing import TYPE_CHECKING, Any, Dict, Iterable, Iterator, NamedTuple, Optional, Set, Tuple
+from typing import TYPE_CHECKING, Any, Dict, Iterable, Iterator, List, NamedTuple, Optional, Set, Tuple
 
 from .. import files
 from .runs import not_cut_off, say
@@ -26,19 +25,21 @@ if TYPE_CHECKING:
     from .questions import Answer
 
 VERDICT = "verdict"
+# the errors of a link to another file system, or where there are no links
+NO_LINK = errno.EXDEV, errno.EPERM, errno.EOPNOTSUPP
 TRIES, PAUSE = 20, 0.05
 # what tells one question from another, in words
 NAMES = {"rounds": "number of rounds", "branches": "list of branches", "program": "version of the program"}
 ROOMS, LOCK = ".ask-", "lock"
-LINE = re.compile(
-    r"(?P<word>map|none), by (?P<who>.*) in (?P<taken>[\d.]+) s, "
-    r"(?P<size>\d+) bytes with SHA-256 (?P<digest>[0-9a-f]{64}) in (?P<name>[^/\n]+)\n")
+LINE = (r"(?P<word>map|none), by (?P<who>.*) in (?P<taken>[\d.]+) s, "
+        r"(?P<size>\d+) bytes with SHA-256 (?P<digest>[0-9a-f]{64}) in (?P<name>[^/\n]+)\n")
 # so that the names of files are read as they are written
 CODE, ERRORS = "utf-8", "surrogateescape"
 
 
 def digest(file: pathlib.Path) -> str:
     """The SHA-256 of a file."""
+    import hashlib
     found = hashlib.sha256()
     with files.opened(file) as text:
         while piece := text.read(1 << 20):
@@ -110,19 +111,36 @@ def placed(file: pathlib.Path, folder: pathlib.Path) -> pathlib.Path:
         number += 1
         place = folder / (file.name if number == 1 else f"{file.stem}.{number}{file.suffix}")
         try:
-            os.link(file, place, follow_symlinks=False)
+            put(file, place)
             return place
         except FileExistsError:
             if place.is_file() and not place.is_symlink() and place.stat().st_size == file.stat().st_size and digest(place) == digest(file):
                 return place
 
 
-def keep(file: pathlib.Path, folder: pathlib.Path) -> None:
-    """Puts a file that is accepted into a folder, and says why if it can't be kept."""
+def put(file: pathlib.Path, place: pathlib.Path) -> None:
+    """Gives a file a name that is free: by a link, or by a copy if the place is on another file system. Raises FileExistsError."""
     try:
-        placed(file, folder)
+        os.link(file, place, follow_symlinks=False)
     except OSError as error:
-        say(f"    {file.name} can't be kept: {error}")
+        if error.errno not in NO_LINK:
+            raise
+        handle, made = tempfile.mkstemp(dir=place.parent, prefix=ROOMS)
+        try:
+            with open(handle, "wb") as copy, files.opened(file) as text:
+                shutil.copyfileobj(text, copy)
+            os.chmod(made, 0o644)
+            os.link(made, place, follow_symlinks=False)
+        finally:
+            os.unlink(made)
+
+
+def keep(file: pathlib.Path, folder: pathlib.Path, kept: List[pathlib.Path]) -> None:
+    """Puts a file that is accepted into a folder, and adds its place to a list; or says why it can't be kept."""
+    try:
+        kept.append(placed(file, folder))
+    except OSError as error:
+        say(f"    {file.name} can't be kept: {error.strerror}: {folder}")
 
 
 class Note(NamedTuple):
@@ -180,7 +198,7 @@ class Notes:
     def line_of(self, branch: int) -> Optional[Note]:
         """What is noted of a branch, whether it is to be trusted or not."""
         with files.opened(self.folder / f"branch-{branch}") as file:
-            found = LINE.fullmatch(file.read(1 << 14).decode(CODE, ERRORS))
+            found = re.fullmatch(LINE, file.read(1 << 14).decode(CODE, ERRORS))
         if not found:
             return None
         word, who, taken, size, sha, name = found.groups()

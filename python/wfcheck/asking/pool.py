@@ -1,7 +1,6 @@
 """So many calls at once, for tools/ask: the branches of a question, or the cases of one, each in a scope of its own."""
 from __future__ import annotations
 
-import argparse
 import concurrent.futures
 import contextlib
 import functools
@@ -9,6 +8,7 @@ import threading
 from typing import Callable, Dict, Iterable, List, NamedTuple, Optional
 
 from . import runs
+from .asked import Words
 from .questions import answered
 from .runs import Scope, Stopped
 
@@ -25,7 +25,7 @@ class Kind(NamedTuple):
     is_over: Callable[[int, int], bool]
 
 
-def run(words: argparse.Namespace, kind: Kind, calls: Dict[int, Call]) -> None:
+def run(words: Words, kind: Kind, calls: Dict[int, Call]) -> None:
     """Makes the calls in their order, so many at once. Once one finds a map, those end that are over then, and those that are to come."""
     todo, over = iter(calls.items()), threading.Event()
     going: Dict[int, Scope] = {}

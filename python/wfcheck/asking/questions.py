@@ -1,17 +1,17 @@
 """A question for `ask`, and one attempt to answer it: by the search or by a SAT solver, and then by the check of what that wrote."""
 from __future__ import annotations
 
-import concurrent.futures
+import errno
 import os
 import pathlib
 import re
-import shlex
+import shutil
 import signal
-import subprocess
 from typing import Any, Callable, Dict, List, NamedTuple, Optional, Sequence, Tuple, TypeVar
 
+from .. import files
+from ..files import in_line
 from . import runs
-from .given import in_line
 from .notes import VERDICT
 from .runs import Clock, Given, Late, Look, Refused, Scope, say
 
@@ -21,16 +21,17 @@ SEARCH, SEARCH_ALONE = "the search", "search"
 FEWER_ROUNDS = "the search after fewer rounds"
 # the share of a question's time in which a map after fewer rounds is looked for
 SHARE = 0.1
-CLAUSES = re.compile(rb"^p cnf \d+ (\d+)$", re.M)
+CLAUSES = rb"(?m)^p cnf \d+ (\d+)$"
 HEAD = 1 << 14
+# a file of fewer bytes most likely is checked in a moment
+SMALL = 1 << 20
 # so many bytes from the end of what a solver said may have its last line
 TAIL = 200
 # how a search ends that has written too many lines: it has an answer, or met the limit of a file
 TOO_LONG = 1, -signal.SIGXFSZ
 # how many bytes of a part `verify` reads; and who gives an answer that has no lines
 LONGEST, WITHOUT_LINES = 16_777_216, "the search's answer, without lines"
-EMPTY = re.compile(rb"\n(?=\n)")
-SAYS = re.compile(rb"(?:s )?(UN)?SAT(?:ISFIABLE)?\s*")
+EMPTY, SAYS = rb"\n(?=\n)", rb"(?:s )?(UN)?SAT(?:ISFIABLE)?\s*"
 PLACES = {"formula": "cnf", "proof": "drat", "hints": "lrat", "output": "out"}
 # the two kinds of clausal proofs, by what their files end in, and the words by which `wfcheck proof` is told of the second
 PROOFS: Dict[str, List[str]] = {".drat": [], ".lrat": ["--lrat"]}
@@ -61,7 +62,7 @@ class Question:
         self.branch = [] if branch is None else ["--branch", branch]
         self.name = "-".join(map(str, [task.stem, rounds, *self.branch[1:]]))
         where = f" in branch {branch} of {count}" if self.branch else ""
-        self.accepted = re.compile(rf"accepted (map|least|none){where} at {rounds} rounds?\s*")
+        self.accepted = rf"accepted (map|least|none){where} at {rounds} rounds?\s*"
 
     def who(self, name: str) -> str:
         """Who says something, with the branch that it is about."""
@@ -77,6 +78,8 @@ class Attempt:
 
     def __init__(self, question: Question, folder: pathlib.Path, scope: Scope, clock: Clock) -> None:
         self.question, self.folder, self.scope, self.clock = question, folder, scope, clock
+        # whether the search said that there is no map
+        self.is_none = False
 
     def file(self, kind: str) -> pathlib.Path:
         """A file of this attempt."""
@@ -94,11 +97,13 @@ class Attempt:
         """What wfcheck accepts a file as, a map or none, and how it ended; no word where it refuses the file."""
         question = self.question
         try:
-            ended = self.wfcheck([command, *question.about, *question.branch, *self.kind(command, file)], file)
+            words = [command, *question.about, *question.branch, *self.kind(command, file)]
+            is_small = file.stat().st_size < SMALL
+            ended = self.scope.at_once_or_later(words, self.clock, file) if is_small else self.wfcheck(words, file)
         except Late:
             say(f"    wfcheck {command}: {question.who('no end')} within the {self.clock.seconds:g} s that the question has")
             raise
-        found = question.accepted.fullmatch(ended.said) if ended.status == 0 else None
+        found = re.fullmatch(question.accepted, ended.said) if ended.status == 0 else None
         say(f"    wfcheck {command}: {ended.said.strip() if found else question.who(ended.why())} ({ended.taken:.2f} s)")
         return ({"least": "map"}.get(found[1], found[1]) if found else None), ended
 
@@ -114,13 +119,39 @@ class Attempt:
         """The proof that a solver has written, if it has: with hints, if there are any."""
         return next((it for it in map(self.file, ("lrat", "drat")) if it.is_file()), None)
 
+    def search(self, *form: str) -> List[Any]:
+        """The words by which the search is asked."""
+        return ["solve", "--rounds", self.question.rounds, "--workers", 1, *self.question.branch, *form]
+
     def solve(self, wrote: pathlib.Path, *form: str) -> runs.Ended:
         """Has the search answer, and returns how it ended."""
-        words = ["solve", "--rounds", self.question.rounds, "--workers", 1, *self.question.branch, *form]
-        ended = self.wfcheck(words, self.question.task, wrote)
+        ended = self.wfcheck(self.search(*form), self.question.task, wrote)
         if ended.status == 2:
             raise Refused(ended.said)
         return ended
+
+    def map_at_once(self) -> Optional[Answer]:
+        """The map that the search finds in a moment, if it is accepted. It is noted if the search says that there is none."""
+        return self.at_once("map", "--verdict")
+
+    def none_at_once(self) -> Optional[Answer]:
+        """The refutation that the search writes in a moment, once it said that there is no map, if it is accepted."""
+        return self.at_once("none") if self.is_none else None
+
+    def at_once(self, word: str, *form: str) -> Optional[Answer]:
+        """The search's answer, if it comes in a moment, is this one, and is accepted."""
+        report = self.file("report")
+        ended = self.scope.at_once(self.search(*form), self.clock, self.question.task, report)
+        if ended and ended.status == 2:
+            raise Refused(ended.said)
+        said = {0: "map", 1: "none"}.get(ended.status) if ended else None
+        self.is_none = said == "none"
+        if ended and said == word:
+            self.tell(SEARCH, f"says {word} in {ended.taken:.2f} s")
+            if self.accepted(report) == word:
+                return Answer(word, SEARCH, ended.taken, [report])
+        report.unlink(missing_ok=True)
+        return None
 
     def by_search(self) -> Optional[Answer]:
         """The search's answer, where its report is accepted. The whole question is asked for the verdict first: the lines of a refutation may
@@ -163,22 +194,30 @@ class Attempt:
             self.tell(SEARCH, f"has no refutation: {ended.why()}")
         return ended.status == 1
 
-    def by_fewer_rounds(self) -> Optional[Answer]:
-        """A map after fewer rounds, lifted to these. The search looks for one in a short share of the time."""
+    def fewer_rounds_at_once(self) -> Optional[Answer]:
+        """A map after fewer rounds, lifted to these, if the search has one in a moment after each of them."""
+        return self.by_fewer_rounds(at_once=True)
+
+    def by_fewer_rounds(self, at_once: bool = False) -> Optional[Answer]:
+        """A map after fewer rounds, lifted to these. The search looks for one in a short share of the time, or in a moment."""
         clock = Clock(self.clock.seconds * SHARE)
         for rounds in range(self.question.rounds):
             report = self.file(f"after-{rounds}")
-            ended = self.scope.wfcheck(["solve", "--rounds", rounds, "--workers", 1, "--verdict"], clock, self.question.task, report)
-            if ended.status == 0:
+            report.unlink(missing_ok=True)
+            asked = ["solve", "--rounds", rounds, "--workers", 1, "--verdict"]
+            ended = (self.scope.at_once(asked, clock, self.question.task, report) if at_once else
+                     self.scope.wfcheck(asked, clock, self.question.task, report))
+            if ended and ended.status == 0:
                 self.tell(f"the search after {rounds} {'round' if rounds == 1 else 'rounds'}", f"says map in {ended.taken:.2f} s")
                 return self.lifted(report, ended.taken)
-            if ended.status != 1:
+            if not ended or ended.status != 1:
                 return None
         return None
 
     def lifted(self, report: pathlib.Path, taken: float) -> Optional[Answer]:
         """The map of a report of fewer rounds, for these rounds."""
         lifted = self.file("lifted")
+        lifted.unlink(missing_ok=True)
         ended = self.wfcheck(["lift", *self.question.about], report, lifted)
         say(f"    wfcheck lift: {ended.why() if ended.status else f'a map for {self.question.rounds} rounds'} ({ended.taken:.2f} s)")
         if ended.status:
@@ -192,7 +231,7 @@ class Attempt:
         def look() -> None:
             """Looks how many clauses the formula has, as far as it is written."""
             with open(formula, "rb") as text:
-                found = CLAUSES.search(text.read(HEAD))
+                found = re.search(CLAUSES, text.read(HEAD))
             if found and int(found[1]) > most:
                 raise NoFormula(f"the formula has {int(found[1]):,} clauses, more than {most:,} (--clauses)")
 
@@ -216,9 +255,12 @@ class Attempt:
         """A solver's answer about the formula that is written."""
         names = {name: str(self.file(kind)) for name, kind in PLACES.items()}
         begun = self.clock.taken()
+        import subprocess
         with open(self.file("said"), "xb") as said:
-            command = [word.format(**names) for word in shlex.split(words)]
+            command = [word.format(**names) for word in split(words)]
             status = self.scope.run(command, self.clock, stdin=subprocess.DEVNULL, stdout=said, stderr=said)
+        for kind in PLACES.values():
+            make_own(self.file(kind), self.clock, self.scope.limits.file)
         if status < 0:
             self.tell(solver_name(words), f"has no answer: {runs.Ended(status, '', 0).why()}")
             return None
@@ -251,7 +293,7 @@ class Attempt:
         files = [it for it in (self.file("out"), self.file("said")) if it.is_file()]
         for file in files:
             for line in runs.pieces(file, self.clock):
-                if found := SAYS.fullmatch(line):
+                if found := re.fullmatch(SAYS, line):
                     return "none" if found[1] else "map", files[0]
         return None, None
 
@@ -277,7 +319,36 @@ class Attempt:
 
 def solver_name(words: str) -> str:
     """What a solver is called whose command these words are."""
-    return in_line(pathlib.PurePath(shlex.split(words)[0]).name)
+    return in_line(pathlib.PurePath(split(words)[0]).name)
+
+
+def make_own(file: pathlib.Path, clock: Clock, most: int) -> None:
+    """Puts a copy in the place of a file that a solver left, if that is a link or has another name: so what is checked is what is kept. What
+    is no file, or has too many bytes, is taken away."""
+    if not os.path.lexists(file) or not file.is_symlink() and file.is_file() and file.stat().st_nlink == 1:
+        return
+    copy, size = file.with_name(f"{file.name}.copy"), 0
+    try:
+        with files.opened(file) as text, open(copy, "xb") as own:
+            while piece := text.read(1 << 20):
+                clock.go_on()
+                size += len(piece)
+                if size > most:
+                    raise OSError(errno.EFBIG, os.strerror(errno.EFBIG), str(file))
+                own.write(piece)
+        copy.replace(file)
+    except OSError:
+        copy.unlink(missing_ok=True)
+        if file.is_dir() and not file.is_symlink():
+            shutil.rmtree(file, ignore_errors=True)
+        else:
+            file.unlink(missing_ok=True)
+
+
+def split(words: str) -> List[str]:
+    """The words of a command, as a shell splits them."""
+    import shlex
+    return shlex.split(words)
 
 
 def lemmas(proof: pathlib.Path, clock: Clock) -> int:
@@ -287,7 +358,7 @@ def lemmas(proof: pathlib.Path, clock: Clock) -> int:
         while read := text.read(1 << 20):
             clock.go_on()
             piece, last = last + read, read[-1:]
-            others = piece.count(deletes) + piece.count(b"\nc") + (len(EMPTY.findall(piece)) if b"\n\n" in piece else 0)
+            others = piece.count(deletes) + piece.count(b"\nc") + (len(re.findall(EMPTY, piece)) if b"\n\n" in piece else 0)
             count += piece.count(b"\n", 0, -1) - others
     return count
 
@@ -305,6 +376,7 @@ def answered(name: str, ask: Callable[[], Optional[T]]) -> Optional[T]:
 
 def first(scope: Scope, asked: Dict[str, Call]) -> Optional[Answer]:
     """The first answer that is accepted; then the others are stopped. `asked` has a call for each name."""
+    import concurrent.futures
     with concurrent.futures.ThreadPoolExecutor(len(asked)) as pool:
         one: Callable[[str, Call], Optional[Answer]] = answered
         jobs = [pool.submit(one, name, ask) for name, ask in asked.items()]

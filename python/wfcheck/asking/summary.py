@@ -3,6 +3,8 @@ from __future__ import annotations
 
 from typing import Dict, NamedTuple, Optional
 
+# the status for an answer
+STATUS = {"map": 0, "none": 1, None: 3}
 TOO_MANY_ROUNDS, TOO_MANY_EXECUTIONS = 16, 17
 
 

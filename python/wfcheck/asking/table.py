@@ -2,7 +2,6 @@
 from __future__ import annotations
 
 import fcntl
-import hashlib
 import pathlib
 import re
 import sys
@@ -37,6 +36,7 @@ class Table:
     def of_notes(notes: Collection[Note]) -> Certificate:
         """The certificates of branches: their bytes together, and the SHA-256 of the notes, one behind another."""
         text = "".join(note.line() for note in notes).encode(errors="surrogateescape")
+        import hashlib
         return Certificate("branches", sum(note.size for note in notes), hashlib.sha256(text).hexdigest())
 
     def add(self, task: pathlib.Path, rounds: Union[int, str], answer: Optional[str], certificate: Optional[Certificate],

@@ -1,81 +1,37 @@
 """The words of tools/ask, and the question as a whole: the search and a solver are asked side by side."""
 from __future__ import annotations
 
-import argparse
-import difflib
+import contextlib
 import functools
+import gc
 import io
 import os
 import pathlib
 import re
-import shlex
-import shutil
 import signal
-import subprocess
 import sys
 import tempfile
-from typing import Dict, List, Optional, Tuple
+from typing import Callable, Dict, List, Optional, Tuple
 
-from ..gallery import gallery
+from .. import files
+from ..files import in_line
 from ..running import VARIABLE, NoProgram, linter, program
 from ..running import refusal as refusal_of
-from . import __doc__ as about
-from . import arrays, branches, cases, fewer, hints, never, questions, runs, table
-from .given import Given, in_line
+from . import never, questions, runs, table
+from .asked import Door, Words, parsed
+from .given import Given
 from .notes import Notes, Room, keep
-from .questions import FEWER_ROUNDS, PLACES, SEARCH, SEARCH_ALONE, Answer, Attempt, Question, first
-from .runs import Clock, Late, Limits, Refused, Scope, Stopped, Undecided, say
-from .summary import refused_in_words, summary
+from .questions import FEWER_ROUNDS, SEARCH, SEARCH_ALONE, Answer, Attempt, Question, first, split
+from .runs import Clock, Limits, Refused, Scope, Stopped, Undecided, say
+from .summary import STATUS, refused_in_words, summary
 
-SOLVERS = {
-    "cadical": "cadical -q --no-binary {formula} {proof}",
-    "kissat": "kissat -q --no-binary --no-factor {formula} {proof}",
-    "cryptominisat5": "cryptominisat5 --verb 0 {formula}",
-    "minisat": "minisat -verb=0 {formula} {output}",
-}
-# CaDiCaL writes hints from version 1.7 on, by which a proof is checked ten times faster and more
-HINTS = "cadical -q --no-binary --lrat {formula} {hints}"
-# Kissat's bounded variable addition, from version 4.0 on, brings in new variables: those of two cases of a split would be mixed up
-NO_FACTOR, SATISFIABLE = "--no-factor", 10
-# what CaDiCaL does without a word on a formula without a model, if it knows the option
-NO_MODEL, UNSATISFIABLE = "p cnf 1 2\n1 0\n-1 0\n", 20
-NO_SOLVER = "no SAT solver is on the path (Debian has the packages cadical, cryptominisat and minisat): the search alone is asked"
 REFUSED, CUT_OFF = 2, 130
 GB = 1 << 30
+# how many bytes have to be free in a folder in which a run works
+ROOM = 1 << 26
 
 
-def parsed(listed: List[str], name: str) -> Tuple[argparse.ArgumentParser, argparse.Namespace]:
-    """The words as they stand."""
-    words = argparse.ArgumentParser(
-        description=about, formatter_class=argparse.RawDescriptionHelpFormatter, usage=f"{name} TASK .. ROUNDS [options]", prog=name)
-    words.add_argument("given", nargs="*", metavar="TASK .. ROUNDS", help=argparse.SUPPRESS)
-    words.add_argument("--solver")
-    words.add_argument("--seconds", type=float, default=60)
-    words.add_argument("--clauses", type=int, default=20_000_000)
-    words.add_argument("--memory", type=float, default=4)
-    words.add_argument("--disk", type=float, default=4)
-    words.add_argument("--keep", type=pathlib.Path)
-    words.add_argument("--no-obstruction", action="store_true")
-    words.add_argument("--no-restrict", action="store_true")
-    words.add_argument("--hint", type=pathlib.Path, action="append", default=[])
-    words.add_argument("--jobs", type=int)
-    words.add_argument("--table", type=pathlib.Path)
-    words.add_argument("--split")
-    chosen = words.add_mutually_exclusive_group()
-    chosen.add_argument("--branch", type=int)
-    chosen.add_argument("--share")
-    chosen.add_argument("--array", choices=list(arrays.SYSTEMS))
-    chosen.add_argument("--tally", type=pathlib.Path)
-    chosen.add_argument("--recheck", type=pathlib.Path)
-    # options may stand between tasks and rounds
-    found = words.parse_intermixed_args(listed)
-    if len(found.given) < 2:
-        words.error(f"the following arguments are required: {', '.join(['task', 'rounds'][len(found.given):])}")
-    *found.tasks, found.rounds = found.given
-    return words, found
-
-
-def asked(listed: List[str], command: List[str], name: str) -> argparse.Namespace:
+def asked(listed: List[str], command: List[str], name: str) -> Words:
     """The words, the files of the tasks, and the rounds in turn. The command is that by which a job asks again."""
     words, found = parsed(listed, name)
     try:
@@ -88,21 +44,24 @@ def asked(listed: List[str], command: List[str], name: str) -> argparse.Namespac
     found.files = [file_of(words, name) for name in found.tasks]
     if (found.by_branch or found.split) and len(found.rounds) > 1:
         words.error(f"{'cases' if found.split else 'branches'} are those of one number of rounds, and not of FIRST..LAST")
+    if found.by_branch and found.show:
+        words.error("--show is about whole questions, and not about branches")
     if (found.by_branch or found.split) and found.hint:
         words.error("--hint is about whole questions, and not about branches or cases")
-    if missing := next((it for it in found.hint if not it.is_file()), None):
+    if missing := next((it for it in found.hint if not os.path.isfile(it)), None):
         words.error(f"--hint: {missing} is no file")
+    judge_table(words, found)
     if (found.by_branch or found.split) and len(found.files) > 1:
         words.error(f"{'cases' if found.split else 'branches'} are those of one task: ask about one after another")
     if found.solver not in (None, SEARCH_ALONE):
-        wrong = wrong_command(words_of(found.solver))
-        if wrong:
+        from . import solvers
+        if wrong := solvers.wrong_command(solvers.words_of(found.solver)):
             words.error(f"--solver: {wrong}")
     judge_folder(words, found)
     return found
 
 
-def rounds_of(words: argparse.ArgumentParser, text: str) -> range:
+def rounds_of(words: Door, text: str) -> range:
     """The numbers of rounds that a word names."""
     found = re.fullmatch(r"(\d{1,9})(?:\.\.(\d{1,9}))?", text, re.A)
     first_rounds, last = (int(found[1]), int(found[2] or found[1])) if found else (1, 0)
@@ -113,14 +72,16 @@ def rounds_of(words: argparse.ArgumentParser, text: str) -> range:
     return range(first_rounds, last + 1)
 
 
-def file_of(words: argparse.ArgumentParser, name: str) -> pathlib.Path:
+def file_of(words: Door, name: str) -> pathlib.Path:
     """The file of a task, by its path or by its name in the gallery."""
     path, known = pathlib.Path(name), runs.TASKS / f"{name.removesuffix('.json')}.json"
-    if path.is_file() or known.is_file():
-        return path if path.is_file() else known
+    # a name may be too long for a file
+    if os.path.isfile(path) or os.path.isfile(known):
+        return path if os.path.isfile(path) else known
     meant, names = path.name.removesuffix(".json"), gallery_names()
     if meant in names and not runs.TASKS.is_dir():
         words.error(f"{path} is no file; `wfcheck-task {meant}` writes the file")
+    import difflib
     near = difflib.get_close_matches(meant, names)
     asked_for = f": {' or '.join(near)}?" if near else ""
     if runs.TASKS.is_dir():
@@ -130,7 +91,10 @@ def file_of(words: argparse.ArgumentParser, name: str) -> pathlib.Path:
 
 def gallery_names() -> List[str]:
     """The names of the gallery's tasks. Where its files are not there, the tasks are made."""
-    return [it.stem for it in runs.TASKS.glob("*.json")] if runs.TASKS.is_dir() else [it.name for it in gallery()]
+    if runs.TASKS.is_dir():
+        return [it.stem for it in runs.TASKS.glob("*.json")]
+    from ..gallery import gallery
+    return [it.name for it in gallery()]
 
 
 def named_program() -> List[str]:
@@ -138,7 +102,7 @@ def named_program() -> List[str]:
     return ["env", f"{VARIABLE}={program()}"] if os.environ.get(VARIABLE) else []
 
 
-def judge_numbers(words: argparse.ArgumentParser, found: argparse.Namespace) -> None:
+def judge_numbers(words: Door, found: Words) -> None:
     """Refuses numbers that mean nothing, and finds out whether branches are asked."""
     share = re.fullmatch(r"(\d+)/(\d+)", found.share, re.A) if found.share else None
     if found.share and not (share and int(share[1]) < int(share[2])):
@@ -160,22 +124,30 @@ def judge_numbers(words: argparse.ArgumentParser, found: argparse.Namespace) -> 
     found.limits = Limits(int(found.memory * GB), int(found.disk * GB))
 
 
-def judge_split(words: argparse.ArgumentParser, found: argparse.Namespace) -> None:
+def judge_table(words: Door, found: Words) -> None:
+    """Refuses a table that is a file which is read: lines would be appended to it."""
+    with contextlib.suppress(OSError):
+        for file in [*found.files, *found.hint] if found.table.file else []:
+            if file.samefile(found.table.file):
+                words.error(f"--table: {in_line(str(found.table.file))} is a file that is read, and lines would be appended to it")
+
+
+def judge_split(words: Door, found: Words) -> None:
     """Refuses cases of what is not one question."""
     if found.split is None:
         return
-    if not re.fullmatch(rf"\d{{1,9}}|{cases.AUTO}", found.split, re.A):
-        words.error(f"--split is to be the number of a point, or {cases.AUTO}")
+    if not re.fullmatch(r"\d{1,9}|auto", found.split, re.A):
+        words.error("--split is to be the number of a point, or auto")
     if found.share or found.array or found.looks:
         words.error("--split is about the whole question or one branch, and not about --share, --array, --tally or --recheck")
 
 
-def judge_folder(words: argparse.ArgumentParser, found: argparse.Namespace) -> None:
+def judge_folder(words: Door, found: Words) -> None:
     """Finds the folder that keeps, and makes it where it may be new."""
     if found.looks:
         if found.keep:
             words.error("--tally and --recheck name the folder themselves, without --keep")
-        if not found.looks.is_dir():
+        if not os.path.isdir(found.looks):
             words.error(f"{found.looks} is no folder")
         found.keep = found.looks
     if (found.by_branch or found.split) and not found.keep:
@@ -185,63 +157,6 @@ def judge_folder(words: argparse.ArgumentParser, found: argparse.Namespace) -> N
             found.keep.mkdir(parents=True, exist_ok=True)
     except OSError as error:
         words.error(f"--keep: {error}")
-
-
-def wrong_command(solver: str) -> Optional[str]:
-    """Why a solver's words can't be run; None where they can."""
-    try:
-        words = [word.format(**PLACES) for word in shlex.split(solver)]
-    except (KeyError, IndexError, ValueError, AttributeError):
-        return f"{solver!r} has a quote that is not closed, or other places than {', '.join(map('{{{}}}'.format, PLACES))}"
-    return None if words and shutil.which(words[0]) else f"{words[0] if words else solver!r} is not on the path"
-
-
-def known_name(solver: str) -> Optional[str]:
-    """The name of a known solver, by which alone it is called, or with its path; None of other words."""
-    name = pathlib.PurePath(solver).name
-    return name if name in SOLVERS and (solver == name or shutil.which(solver)) else None
-
-
-def with_path(solver: str, words: str) -> str:
-    """The words of a known solver, called as it is called here."""
-    return shlex.quote(solver) + words.removeprefix(pathlib.PurePath(solver).name)
-
-
-def words_of(solver: str) -> str:
-    """The command of a known solver, or the one that is given."""
-    name = known_name(solver)
-    return with_path(solver, SOLVERS[name]) if name else solver
-
-
-def command(solver: str, limits: Limits, has_hints: bool) -> str:
-    """The command of a solver: of Kissat without the option that an older one doesn't know, and of CaDiCaL with hints, if it can write
-    them and they are of use."""
-    name, words = known_name(solver), words_of(solver)
-    if name == "kissat":
-        knows = tried([solver, "-q", NO_FACTOR], "p cnf 1 1\n1 0\n", limits) == SATISFIABLE
-        return words if knows else words.replace(f" {NO_FACTOR}", "")
-    if name == "cadical" and has_hints and tried([solver, "-q", "--no-binary", "--lrat"], NO_MODEL, limits) == UNSATISFIABLE:
-        return with_path(solver, HINTS)
-    return words
-
-
-def tried(words: List[str], text: str, limits: Limits) -> Optional[int]:
-    """The status with which a solver ends on a small formula, with a place for a proof; None if it has none."""
-    with tempfile.TemporaryDirectory() as made:
-        formula, proof = pathlib.Path(made) / "one.cnf", pathlib.Path(made) / "proof"
-        formula.write_text(text)
-        how = {name: subprocess.DEVNULL for name in ("stdin", "stdout", "stderr")}
-        try:
-            return Scope(limits).run([*words, formula, *[proof] * (text == NO_MODEL)], Clock(10), **how)
-        except (Late, OSError):
-            return None
-
-
-def by_path(solver: str) -> str:
-    """The words of a solver, which is named by its path: a job may have another path to look it up in."""
-    name, *rest = shlex.split(solver)
-    path = str(pathlib.Path(shutil.which(name) or name).absolute())
-    return " ".join(word if re.fullmatch(r"[\w./=+{}-]+", word, re.A) else shlex.quote(word) for word in [path, *rest])
 
 
 def refusal(said: str, task: pathlib.Path) -> str:
@@ -258,6 +173,7 @@ def refusal(said: str, task: pathlib.Path) -> str:
 def main(listed: List[str], command: List[str], name: str = "ask") -> int:
     """Asks what a list of words says, by a command with a name, and returns the status."""
     words = asked(listed, command, name)
+    gc.enable()
     if isinstance(sys.stdout, io.TextIOWrapper):
         sys.stdout.reconfigure(errors="backslashreplace")
     for end in runs.ENDING:
@@ -272,12 +188,14 @@ def main(listed: List[str], command: List[str], name: str = "ask") -> int:
         if found[-1] == CUT_OFF:
             break
     # that of the whole is 0 if each task is decided
-    return next((it for it in (CUT_OFF, REFUSED, branches.STATUS[None]) if it in found), 0)
+    return next((it for it in (CUT_OFF, REFUSED, STATUS[None]) if it in found), 0)
 
 
-def of_task(words: argparse.Namespace, file: pathlib.Path) -> int:
+def of_task(words: Words, file: pathlib.Path) -> int:
     """Asks about the task of a file, and returns the status."""
-    one = argparse.Namespace(**vars(words))
+    one = Words(**vars(words))
+    # the files that are kept, and what was accepted last
+    one.kept, one.accepted = [], None
     try:
         with tempfile.TemporaryDirectory() as made:
             one.given = Given(file, pathlib.Path(made))
@@ -292,46 +210,63 @@ def of_task(words: argparse.Namespace, file: pathlib.Path) -> int:
         return no_answer(words, file, "refused", REFUSED)
     except (Undecided, OSError) as why:
         print(f"ask: {why}", file=sys.stderr)
-        return no_answer(words, file, "not decided", branches.STATUS[None])
+        return no_answer(words, file, "not decided", STATUS[None])
 
 
-def no_answer(words: argparse.Namespace, file: pathlib.Path, said: str, status: int) -> int:
+def no_answer(words: Words, file: pathlib.Path, said: str, status: int) -> int:
     """Says a last line of a task that has no answer, where several are asked about, and returns the status."""
     if len(words.files) > 1:
         say(f"{in_line(file.stem)}: {said}")
     return status
 
 
-def answered(words: argparse.Namespace) -> int:
+def answered(words: Words) -> int:
     """Asks, and returns the status that the answer has."""
     if has_obstruction(words):
         return of_never(words)
-    solver = words.solver or next(filter(shutil.which, SOLVERS), None)
-    if not solver and not words.looks:
-        print(NO_SOLVER, file=sys.stderr)
-    solver = None if solver in (None, SEARCH_ALONE) or words.looks else command(solver, words.limits, not words.split)
+    if not words.by_branch and not words.split:
+        with Room(roomy(words.keep)) as room:
+            return in_rounds(words, room)
+    from . import branches, solvers
+    solver = None if words.looks else solver_of(words)
     if words.split and not solver:
         raise Refused("--split needs a SAT solver that writes proofs")
     if words.array:
-        return branches.main(words, by_path(solver) if solver else SEARCH_ALONE, Clock(words.seconds))
+        return branches.main(words, solvers.by_path(solver) if solver else SEARCH_ALONE, Clock(words.seconds))
     if words.by_branch:
         return branches.main(words, solver, Clock(words.seconds))
-    if words.split:
-        return in_cases(words, solver)
-    with Room(words.keep) as room:
-        return in_rounds(words, solver, room)
+    return in_cases(words, str(solver))
 
 
-def in_rounds(words: argparse.Namespace, solver: Optional[str], room: Room) -> int:
+def roomy(folder: Optional[pathlib.Path]) -> Optional[pathlib.Path]:
+    """The folder that keeps, if there is room to work in it: then a large file is kept without a copy. None stands for temporary files."""
+    if folder:
+        about = os.statvfs(folder)
+        return folder if about.f_bavail * about.f_frsize >= ROOM else None
+    return None
+
+
+def solver_of(words: Words) -> Optional[str]:
+    """The command of the solver that is asked; None if it is the search alone."""
+    if words.solver == SEARCH_ALONE:
+        return None
+    from . import solvers
+    solver = words.solver or solvers.first_on_path()
+    return solvers.command(solver, words.limits, not words.split) if solver else None
+
+
+def in_rounds(words: Words, room: Room) -> int:
     """Asks about one number of rounds behind another, up to the first with a map, and returns the status of the last that has an answer. A
     number that is refused ends the run, as each larger one would be; what was accepted before is told."""
     answers: Dict[int, Optional[str]] = {}
     answer, refused = None, None
+    # what is found out once, if it is needed: the solver, and the sets of processes that have a map
+    words.chosen, words.with_map = functools.lru_cache(maxsize=None)(lambda: solver_of(words)), set()
     for rounds in words.rounds:
         say(f"{words.task.stem} after {rounds} {'round' if rounds == 1 else 'rounds'}:")
         clock = Clock(words.seconds)
         try:
-            answers[rounds], certificate = decided(words, rounds, solver, room, clock)
+            answers[rounds], certificate = decided(words, rounds, room, clock)
         except Refused as why:
             found = refusal_of(str(why))
             if not answers or not found:
@@ -345,13 +280,14 @@ def in_rounds(words: argparse.Namespace, solver: Optional[str], room: Room) -> i
         say(f"    {answer or 'not decided' + (f' within {words.seconds:g} s' if clock.taken() >= words.seconds else '')}")
         if answer == "map":
             break
-    words.given.close()
+    before_last(words)
     say(f"{words.task.stem}: {summary(answers, refused)}")
-    return branches.STATUS[answer]
+    return STATUS[answer]
 
 
-def in_cases(words: argparse.Namespace, solver: str) -> int:
+def in_cases(words: Words, solver: str) -> int:
     """Asks about the whole question case by case, and returns the status that the answer has."""
+    from . import branches, cases
     rounds, clock, about = words.rounds[0], Clock(words.seconds), branches.listed(words).about
     with Room(words.keep) as room:
         if why := Notes(words.keep).not_about(about, room):
@@ -361,53 +297,111 @@ def in_cases(words: argparse.Namespace, solver: str) -> int:
             whole = Attempt(Question(words.task, rounds), made, Scope(words.limits), Clock(words.seconds))
             by_cases = cases.Cases(words, solver, room, whole)
             answer = questions.answered("the question", by_cases.answer)
+            if answer:
+                accept(words, answer.files[0])
             for file in answer.files if answer else []:
-                keep(file, words.keep)
+                keep(file, words.keep, words.kept)
             if answer:
                 by_cases.clear()
             words.table.add(words.task, rounds, answer and answer.word, answer and words.table.of_file(answer.files[0]), clock.taken())
     word = answer and answer.word
-    words.given.close()
+    before_last(words)
     say(f"{words.task.stem}: {summary({rounds: word})}")
-    return branches.STATUS[word]
+    return STATUS[word]
 
 
-def has_obstruction(words: argparse.Namespace) -> bool:
+def has_obstruction(words: Words) -> bool:
     """Whether the task has an obstruction that is accepted: one that is found, or where nothing is asked one that is kept."""
     if words.no_obstruction or words.array:
         return False
     return never.is_kept(words) if words.looks else never.is_never(words)
 
 
-def of_never(words: argparse.Namespace) -> int:
+def of_never(words: Words) -> int:
     """The status of a task that has no map after any number of rounds. All its branches are decided then."""
     if not words.by_branch:
-        words.given.close()
+        before_last(words)
         say(f"{words.task.stem}: never, by {words.by}")
-    return 0 if words.branch is not None or words.share else branches.STATUS["none"]
+    return 0 if words.branch is not None or words.share else STATUS["none"]
 
 
-def decided(words: argparse.Namespace, rounds: int, solver: Optional[str], room: Room, clock: Clock) -> Tuple[Optional[str],
-            Optional[table.Certificate]]:
-    """The answer of the first that has one within the limit, and its certificate as a table has it; None for both where nobody has."""
+def before_last(words: Words) -> None:
+    """Says before the last line what was accepted, if that is asked for, where it is kept, or how to keep it, and whether the file has changed."""
+    words.given.judge()
+    if words.show and words.accepted:
+        from . import showing
+        for line in showing.shown(words):
+            say(f"    {line}")
+    names = [in_line(str(it)) for it in dict.fromkeys(words.kept)]
+    if names:
+        say(f"    kept: {', '.join(names)}")
+    elif words.accepted and not words.keep:
+        say("    not kept: `--keep FOLDER` keeps what was accepted" + (", and `--show` prints it" if not words.show else ""))
+    words.given.close()
+
+
+def decided(words: Words, rounds: int, room: Room, clock: Clock) -> Tuple[Optional[str], Optional[table.Certificate]]:
+    """The first answer that is accepted within the limit, and its certificate as a table has it; None for both where nobody has one. The
+    program is asked alone for a moment before anything else is started."""
     with room.attempt() as made:
         scope = Scope(words.limits)
         attempt = Attempt(Question(words.task, rounds), made, scope, clock)
-        if answer := questions.answered("the hint", lambda: hints.by_hints(attempt, words.hint)):
-            return kept(words, answer)
-        if not words.no_restrict and (answer := questions.answered("the search on fewer", lambda: fewer.none_of_fewer(attempt))):
-            return kept(words, answer)
-        those = {SEARCH: attempt.by_search}
-        if rounds and rounds == words.rounds[0]:
-            those[FEWER_ROUNDS] = attempt.by_fewer_rounds
-        if solver:
-            those[shlex.split(solver)[0]] = functools.partial(attempt.by_solver, solver, words.clauses)
-        answer = first(scope, those)
-        return kept(words, answer) if answer else (None, None)
+        ways: List[Tuple[str, Callable[[], Optional[Answer]]]] = [
+            ("the hint", functools.partial(by_hints, attempt, words)), (SEARCH, attempt.map_at_once),
+            (FEWER_ROUNDS, functools.partial(fewer_rounds_at_once, attempt, words)), ("the search on fewer", functools.partial(by_fewer, attempt, words)),
+            (SEARCH, attempt.none_at_once), ("the question", functools.partial(by_all, attempt, words))]
+        for name, way in ways:
+            if answer := questions.answered(name, way):
+                return kept(words, answer)
+        return None, None
 
 
-def kept(words: argparse.Namespace, answer: Answer) -> Tuple[str, Optional[table.Certificate]]:
+def by_hints(attempt: Attempt, words: Words) -> Optional[Answer]:
+    """The answer of a report that is given, if one is."""
+    if not words.hint:
+        return None
+    from . import hints
+    return hints.by_hints(attempt, words.hint)
+
+
+def may_have_fewer_rounds(attempt: Attempt, words: Words) -> bool:
+    """Whether fewer rounds may have a map: they were not asked about, and the search didn't say that there is none after these."""
+    rounds = attempt.question.rounds
+    return rounds > 0 and rounds == words.rounds[0] and not attempt.is_none
+
+
+def fewer_rounds_at_once(attempt: Attempt, words: Words) -> Optional[Answer]:
+    """A map after fewer rounds that the search finds in a moment, lifted to these."""
+    return attempt.fewer_rounds_at_once() if may_have_fewer_rounds(attempt, words) else None
+
+
+def by_fewer(attempt: Attempt, words: Words) -> Optional[Answer]:
+    """The answer that there is no map for some of the processes."""
+    if words.no_restrict:
+        return None
+    from . import fewer
+    return fewer.none_of_fewer(attempt, words.with_map)
+
+
+def by_all(attempt: Attempt, words: Words) -> Optional[Answer]:
+    """The first answer of those that are asked side by side."""
+    solver = words.chosen()
+    those: Dict[str, Callable[[], Optional[Answer]]] = {SEARCH: attempt.by_search}
+    if may_have_fewer_rounds(attempt, words):
+        those[FEWER_ROUNDS] = attempt.by_fewer_rounds
+    if solver:
+        those[split(solver)[0]] = functools.partial(attempt.by_solver, solver, words.clauses)
+    return first(attempt.scope, those)
+
+
+def accept(words: Words, certificate: pathlib.Path) -> None:
+    """Notes what was accepted last: the kind of its certificate, and if it is to be shown its text."""
+    words.accepted = certificate.suffix, certificate.read_bytes() if words.show and certificate.stat().st_size <= files.LONGEST else None
+
+
+def kept(words: Words, answer: Answer) -> Tuple[str, Optional[table.Certificate]]:
     """An answer whose files are put into the folder, where there is one, and its certificate as a table has it."""
+    accept(words, answer.files[0])
     for file in answer.files if words.keep else []:
-        keep(file, words.keep)
+        keep(file, words.keep, words.kept)
     return answer.word, words.table.of_file(answer.files[0])

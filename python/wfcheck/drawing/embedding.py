@@ -2,12 +2,11 @@
 
 A vertex of process p that saw k views lies at 1/(2k-1) of the place of p's own view plus 2/(2k-1) of the sum of the others'. A *patch* is
 an input simplex of at most three vertices with places of its vertices. A picture is made of patches, which may share places."""
-import itertools
 import math
 from typing import Dict, List, NamedTuple, Sequence
 
 from ..tasks import Simplex
-from .graphs import Vertex, XY, disc, graph
+from .graphs import Vertex, XY, connected, disc, graph
 from .subdivision import Complex
 
 HEIGHT = math.sqrt(3) / 2
@@ -101,15 +100,6 @@ def side_by_side(groups: Sequence[List[Patch]], columns: int) -> List[Patch]:
     return found
 
 
-def components(facets: Sequence[Simplex]) -> List[List[Simplex]]:
-    """Facets by the connected parts of their complex, in order."""
-    found: List[List[Simplex]] = []
-    for facet in facets:
-        met = [it for it in found if any(set(facet) & set(other) for other in it)]
-        found = [it for it in found if it not in met] + [[*itertools.chain(*met), facet]]
-    return [sorted(it, key=facets.index) for it in found]
-
-
 def group_of(facets: Sequence[Simplex]) -> List[List[Patch]]:
     """The patches of a connected complex: in one group if it fits in the plane, else a group for each facet."""
     if max(map(len, facets)) <= 2:
@@ -120,7 +110,7 @@ def group_of(facets: Sequence[Simplex]) -> List[List[Patch]]:
 
 def layout(facets: Sequence[Simplex]) -> Layout:
     """Where the facets of an input complex are drawn."""
-    parts = components(facets)
+    parts = connected(facets)
     groups = [group for part in parts for group in group_of(part)]
     columns = min(len(groups), 3 if len(groups) == 6 else 4 if len(groups) <= 12 else 8)
     return Layout(side_by_side(groups, columns), len(groups) > len(parts) or any(len(it) == 4 for it in facets))

@@ -8,6 +8,31 @@ Vertex = Tuple[int, int]
 XY = Tuple[float, float]
 Neighbours = Dict[Vertex, List[Vertex]]
 TURNS, THINNEST = 400, 0.08
+# how many pairs of vertices are looked at until all have their places
+MOST_STEPS = 1_000_000
+
+
+def connected(simplices: Sequence[Simplex]) -> List[List[Simplex]]:
+    """Simplices by the connected parts of their complex, each in order. The parts are in the order of their last simplices."""
+    above: Dict[Vertex, Vertex] = {}
+
+    def root(vertex: Vertex) -> Vertex:
+        """The vertex that stands for the part of another one."""
+        while above[vertex] != vertex:
+            above[vertex] = vertex = above[above[vertex]]
+        return vertex
+
+    for simplex in simplices:
+        for vertex in simplex:
+            above.setdefault(vertex, vertex)
+            above[root(vertex)] = root(simplex[0])
+    found: Dict[Vertex, List[Simplex]] = {}
+    last: Dict[Vertex, int] = {}
+    for place, simplex in enumerate(simplices):
+        part = root(simplex[0])
+        found.setdefault(part, []).append(simplex)
+        last[part] = place
+    return [found[part] for part in sorted(found, key=lambda it: last[it])]
 
 
 def neighbours(simplices: Sequence[Simplex]) -> Neighbours:
@@ -78,7 +103,7 @@ def by_distances(around: Neighbours) -> Dict[Vertex, XY]:
     far = distances(around)
     order = sorted(around, key=lambda it: (far[next(iter(around))][it], it))
     places = {it: (math.cos(2.4 * at) * (1 + at / len(order)), math.sin(2.4 * at) * (1 + at / len(order))) for at, it in enumerate(order)}
-    for _ in range(TURNS):
+    for _ in range(min(TURNS, MOST_STEPS // len(order) ** 2)):
         for it in order:
             x, y, weights = 0.0, 0.0, 0.0
             for other in order:

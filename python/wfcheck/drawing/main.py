@@ -2,11 +2,14 @@
 import argparse
 import os
 import pathlib
+import re
 import sys
 import tempfile
-from typing import Callable, List, NamedTuple, Optional
+from typing import Callable, List, NamedTuple, Optional, Tuple
 
+from .. import files
 from ..answers import FIRST, OBSTRUCTION, body, obstruction_of, report_of
+from ..files import LONGEST
 from ..questions import explained, verify
 from ..running import Error, NoFile, Refused, run
 from ..tasks import Simplex, Task, read, told
@@ -21,6 +24,7 @@ from .subdivision import rules_of
 from .svg import svg
 
 REFUSED, INSTALLED = 2, "wfcheck-draw"
+INPUT, NUMBER = re.compile(r"p(\d{1,9})=(.+)", re.A), re.compile(r"\d{1,9}", re.A)
 ABOUT = """Draws a task's complex after some rounds, and what a report or an obstruction says of it. `wfcheck verify` is asked
 first: what it refuses is not drawn. Nothing is proved of a picture."""
 
@@ -35,12 +39,25 @@ class Stopped(Exception):
     """What can't be drawn, in a line."""
 
 
-def inputs(text: str) -> Simplex:
-    """The input simplex that a text such as p0=0,p2=1 is."""
-    pairs = [it.strip().split("=") for it in text.split(",")]
-    if not all(len(it) == 2 and it[0][:1] == "p" and it[0][1:].isdigit() and it[1].isdigit() for it in pairs):
+def inputs(text: str) -> List[Tuple[int, str]]:
+    """The processes with their inputs that a text such as p0=0,p2=1 or p0=lo,p2=hi names."""
+    # a name may have a comma, before which no process stands
+    pairs = [INPUT.fullmatch(it.strip()) for it in re.split(r",(?= *p\d+=)", text)]
+    if not all(pairs):
         raise argparse.ArgumentTypeError(f"{text!r} is not like p0=0,p1=1")
-    return tuple(sorted((int(process[1:]), int(value)) for process, value in pairs))
+    return [(int(it[1]), it[2]) for it in pairs if it]
+
+
+def simplex_of(listed: Optional[List[Tuple[int, str]]], task: Task) -> Optional[Simplex]:
+    """The input simplex of processes and inputs, which are told by number or by name. Raises Stopped for a name that no input has."""
+    if listed is None:
+        return None
+    numbers = {name: number for number, name in task.names.inputs}
+    for process, value in listed:
+        if value not in numbers and not NUMBER.fullmatch(value):
+            known = f": the inputs are {', '.join(numbers)}" if numbers else ", and the inputs of the task have no names"
+            raise Stopped(f"--input: p{process}={value} is no input{known}")
+    return tuple(sorted((process, numbers[value] if value in numbers else int(value)) for process, value in listed))
 
 
 def number(text: str) -> int:
@@ -64,7 +81,7 @@ def words(prog: str = "") -> argparse.ArgumentParser:
     found.add_argument("report", metavar="REPORT", nargs="?", help="a report or an obstruction that `wfcheck` wrote")
     found.add_argument("--rounds", type=number, metavar="R", help="rounds of the complex; with a report it has to be about as many")
     found.add_argument("--outputs", action="store_true", help="draw the output complex, and light what --input allows")
-    found.add_argument("--input", type=inputs, metavar="p0=0,..", help="draw the input facets with these inputs alone")
+    found.add_argument("--input", type=inputs, metavar="p0=0,..", help="draw the input facets with these inputs alone, by numbers or names")
     found.add_argument("--all", action="store_true", help="draw all input facets, not only those that a refutation or an obstruction needs")
     found.add_argument("--faces", action="store_true", help="draw executions of at most two processes alone")
     found.add_argument("--seed", type=number, default=1, metavar="N", help="of an obstruction: which values the points have by chance")
@@ -84,14 +101,15 @@ def accepted(task: Task, text: str, rounds: Optional[int], name: str) -> None:
 
 def picture(task: Task, text: Optional[str], asked: argparse.Namespace) -> Picture:
     """The picture of a task, or of a report or an obstruction, once the program accepted it. Raises Error, TooLarge and Stopped."""
-    choice = Choice(asked.input, asked.faces, asked.all)
+    wanted = simplex_of(asked.input, task)
+    choice = Choice(wanted, asked.faces, asked.all)
     if text is None:
         try:
             run(["views", "--rounds", 0], task.text)
         except Refused as refused:
             raise Stopped(f"wfcheck refuses {asked.task}: {refused}") from refused
         if asked.outputs:
-            return outputs(task, asked.input)
+            return outputs(task, wanted)
         if asked.rounds is None:
             raise Stopped("--rounds R says after how many rounds, or --outputs asks for the outputs")
         return of_complex(task, asked.rounds, choice)
@@ -139,11 +157,17 @@ def of_obstruction(task: Task, text: str, asked: argparse.Namespace, choice: Cho
 
 
 def text_of(path: str) -> str:
-    """The text of a report, from a file or a pipe. Raises NoFile if it can't be read."""
+    """The text of a report, from a file or a pipe. Raises NoFile if it can't be read, is empty, or is longer than `wfcheck verify` reads."""
     try:
-        return pathlib.Path(path).read_text(encoding="ascii", errors="replace")
-    except OSError as error:
+        with open(path, "rb") as file:
+            text = file.read(LONGEST + 1)
+    except (OSError, ValueError) as error:
         raise NoFile(f"{path} can't be read: {told(error)}") from error
+    if not text:
+        raise NoFile(f"{path} is empty: did the command fail that was to write it?")
+    if len(text) > LONGEST:
+        raise NoFile(f"{path} has more than {LONGEST:,} bytes, and no more are read")
+    return text.decode("ascii", errors="replace")
 
 
 def keep(text: str, path: Optional[str]) -> None:
@@ -155,13 +179,14 @@ def keep(text: str, path: Optional[str]) -> None:
     file = pathlib.Path(path)
     if not file.parent.is_dir():
         raise Stopped(f"{file.parent} is no folder to write into")
-    handle, made = tempfile.mkstemp(dir=file.parent, prefix=f".{file.name}.")
+    # a name of any length may stand behind that of the file
+    handle, made = tempfile.mkstemp(dir=file.parent, prefix=".wfcheck-draw.")
     try:
         with os.fdopen(handle, "w", encoding="utf-8") as it:
             it.write(text)
         os.chmod(made, 0o644)
         os.replace(made, file)
-    except OSError:
+    except BaseException:
         os.unlink(made)
         raise
 
@@ -169,6 +194,7 @@ def keep(text: str, path: Optional[str]) -> None:
 def main(listed: Optional[List[str]] = None) -> int:
     """Does what the words say, and returns the status: 0 for a picture, 2 for none."""
     asked = words().parse_args(sys.argv[1:] if listed is None else listed)
+    files.any_text_can_be_written()
     try:
         task = read(asked.task)
         text = None if asked.report is None else text_of(asked.report)
@@ -178,7 +204,7 @@ def main(listed: Optional[List[str]] = None) -> int:
         print(f"{called()}: {why}", file=sys.stderr)
         return REFUSED
     except OSError as why:
-        print(f"{called()}: {why.filename if why.filename else 'writing'}: {why.strerror}", file=sys.stderr)
+        print(f"{called()}: {asked.output or 'writing'}: {why.strerror}", file=sys.stderr)
         return REFUSED
     return 0
 

@@ -4,9 +4,11 @@ from typing import Optional, Union
 from ..answers import Map, Obstruction, Refutation
 from ..questions import explained
 from ..running import Error
+from ..tasks import Task
 from . import pictures
 from .argument import argument_of
 from .counting import weights_of
+from .outputs import of_outputs
 from .pictures import Choice
 from .scene import Scene, TooLarge
 from .subdivision import rules_of
@@ -22,6 +24,15 @@ def picture_of(answer: Union[Map, Refutation, Obstruction]) -> Optional[str]:
         scene = scene_of(answer)
         return svg(scene) if scene else None
     except (TooLarge, Error, KeyError):
+        return None
+
+
+def picture_of_task(task: Task) -> Optional[str]:
+    """The output complex of a task as SVG, or its inputs if there are four processes. None if it is too large to draw or the text is none."""
+    try:
+        rules = rules_of(task)
+        return svg(of_outputs(task, None) if rules.processes <= 3 else pictures.of_complex(task, 0, Choice()))
+    except (TooLarge, Error, LookupError, RecursionError, TypeError, ValueError):
         return None
 
 

@@ -2,12 +2,12 @@
 from typing import Dict, List, Optional, Sequence, Tuple
 
 from ..names import Names
-from ..tasks import Simplex, Task, simplices
-from .graphs import Vertex, XY, by_distances, disc, graph, lowest, neighbours
+from ..tasks import Simplex, Task, facets, simplices
+from .graphs import Vertex, XY, by_distances, connected, disc, graph, lowest, neighbours
 from .scene import MARGIN, MOST_RADIUS, Cell, Scene, Spot, TooLarge, counted, nearest
 from .subdivision import Rules, rules_of
 
-MOST_VERTICES, SIDE, GAP = 120, 150.0, 1.0
+MOST_VERTICES, MOST_TRIANGLES, SIDE, GAP = 120, 9_000, 150.0, 1.0
 WIDEST = 1000.0
 
 
@@ -18,25 +18,16 @@ def allowed_simplices(rules: Rules, simplex: Simplex) -> List[Simplex]:
 
 def outputs_of(rules: Rules) -> List[Simplex]:
     """The output simplices that some inputs allow, and their faces."""
-    return simplices([each for it in rules.simplices for each in allowed_simplices(rules, it)])
-
-
-def parts(listed: Sequence[Simplex]) -> List[List[Simplex]]:
-    """Simplices by the connected parts of their complex, in order."""
-    found: List[List[Simplex]] = []
-    for it in listed:
-        met = [part for part in found if any(set(it) & set(other) for other in part)]
-        found = [part for part in found if part not in met] + [[other for part in met for other in part] + [it]]
-    return found
+    return simplices({each for it in rules.simplices for each in allowed_simplices(rules, it)})
 
 
 def places_of(listed: Sequence[Simplex]) -> Dict[Vertex, XY]:
     """Places for all vertices of a complex: its connected parts stand side by side."""
     found: Dict[Vertex, XY] = {}
     left = 0.0
-    for part in parts(listed):
-        facets = [it for it in part if not any(set(it) < set(other) for other in part)]
-        flat = disc(facets) if len(facets) > 1 else None
+    for part in connected(listed):
+        whole = facets(part)
+        flat = disc(whole) if len(whole) > 1 else None
         edges = all(len(it) <= 2 for it in part)
         places = flat or (graph(part) if edges else lowest(by_distances(neighbours(part))))
         found.update({it: (x + left, y) for it, (x, y) in places.items()})
@@ -46,12 +37,11 @@ def places_of(listed: Sequence[Simplex]) -> Dict[Vertex, XY]:
 
 def pinched(tuples: Sequence[Simplex]) -> List[Vertex]:
     """The vertices about which triangles fall apart: no walk over edges at the vertex joins them all."""
-    found = []
-    for vertex in sorted({it for each in tuples for it in each}):
-        links = [tuple(it for it in each if it != vertex) for each in tuples if vertex in each and len(each) == 3]
-        if len(parts(links)) > 1:
-            found.append(vertex)
-    return found
+    links: Dict[Vertex, List[Simplex]] = {}
+    for each in tuples:
+        for vertex in each if len(each) == 3 else ():
+            links.setdefault(vertex, []).append(tuple(it for it in each if it != vertex))
+    return [vertex for vertex in sorted(links) if len(connected(links[vertex])) > 1]
 
 
 def simplex_text(simplex: Simplex, names: Names = Names()) -> str:
@@ -79,7 +69,11 @@ def of_outputs(task: Task, inputs: Optional[Simplex]) -> Scene:
     rules = rules_of(task)
     if rules.processes > 3:
         raise TooLarge("the outputs of four processes are not drawn")
-    simplex, listed = chosen_simplex(rules, inputs), outputs_of(rules)
+    simplex = chosen_simplex(rules, inputs)
+    triangles = {each for it in rules.simplices if len(it) == 3 for each in allowed_simplices(rules, it)}
+    if len(triangles) > MOST_TRIANGLES:
+        raise TooLarge(f"{len(triangles):,} triangles are too many to draw, and {MOST_TRIANGLES:,} is the most")
+    listed = outputs_of(rules)
     vertices = [it[0] for it in listed if len(it) == 1]
     if not vertices or len(vertices) > MOST_VERTICES:
         raise TooLarge(f"the output complex has {counted(len(vertices), 'vertex').replace('vertexs', 'vertices')}: "
@@ -108,13 +102,12 @@ def set_places(scene: Scene, listed: Sequence[Simplex], vertices: Sequence[Verte
     scene.spots = [Spot(-1, number, it[0], at[it], tuple_text((it,), scene.names), value=it[1]) for number, it in enumerate(vertices)]
     scene.radius = min(MOST_RADIUS, 0.3 * nearest([*at.values()])) if len(at) > 1 else MOST_RADIUS
     middle = sum(x for x, _ in at.values()) / len(at), sum(y for _, y in at.values()) / len(at)
-    scene.cells = [Cell(number, tuple(map(vertices.index, it)), tuple_text(it, scene.names), middle=middle) for number, it in enumerate(listed)]
+    numbers = {it: number for number, it in enumerate(vertices)}
+    scene.cells = [Cell(number, tuple(numbers[each] for each in it), tuple_text(it, scene.names), middle=middle) for number, it in enumerate(listed)]
     scene.size = wide * scale + 2 * MARGIN, low + MARGIN
 
 
-def lit_by(rules: Rules, simplex: Simplex) -> List[int]:
-    """The numbers of the output simplices that an input simplex allows."""
+def lit_by(rules: Rules) -> List[List[int]]:
+    """Of each input simplex the numbers of the output simplices that it allows."""
     numbers = {it: number for number, it in enumerate(outputs_of(rules))}
-    return [numbers[it] for it in allowed_simplices(rules, simplex)]
-
-
+    return [[numbers[each] for each in allowed_simplices(rules, it)] for it in rules.simplices]

@@ -12,7 +12,7 @@ from .palette import colour, ink
 from .scene import Scene, counted
 from .script import SCRIPT, STYLE
 from .subdivision import Complex, Rules
-from .svg import svg
+from .svg import letters, svg
 
 # what stands beside a picture, and what the script is given
 Side = Tuple[str, Dict[str, Any]]
@@ -27,7 +27,7 @@ def page(scene: Scene, side: Side) -> str:
     colours = {str(it): [colour(it, scene.palette), ink(colour(it, scene.palette))] for it in scene.palette}
     # a script ends at the first "</": no text of a task has it as data then
     told = json.dumps({**data, "colours": colours}, separators=(",", ":"), sort_keys=True).replace("</", "<\\/")
-    return "\n".join([
+    return letters("\n".join([
         "<!DOCTYPE html>", '<html lang="en">', "<head>", '<meta charset="utf-8">',
         '<meta name="viewport" content="width=device-width, initial-scale=1">', '<meta name="color-scheme" content="light dark">',
         f'<meta http-equiv="Content-Security-Policy" content="{POLICY}">',
@@ -35,7 +35,7 @@ def page(scene: Scene, side: Side) -> str:
         "<figure>", svg(scene, True, data["live"]), "</figure>",
         f'<section aria-label="{escape(scene.heading)}">', f"<h1>{escape(scene.heading)}</h1>", words, "</section>", "</main>",
         f'<script type="application/json" id="data">{told}</script>', f"<script>{SCRIPT}</script>", "</body>", "</html>", "",
-    ])
+    ]))
 
 
 def item(executions: Sequence[int], points: Sequence[int], **others: Any) -> Dict[str, Any]:
@@ -104,11 +104,18 @@ def of_inputs(rules: Rules, chosen: Any) -> Side:
         points = [f"p{p} = {rules.names.value(value)}" for p, value in pinched(allowed_simplices(rules, it))]
         about = f"{simplex_text(it, rules.names)} allows {counted(len(rules.allowed[it]), 'tuple')}"
         entries.append(choice(number, f"{about}, which fall apart at {' and '.join(points)}" if points else about))
-    items = [item(lit_by(rules, it), []) for it in rules.simplices]
+    items = [item(lit, []) for lit in lit_by(rules)]
     words = "\n".join([KEYS, '<ul aria-label="Input simplices">', *entries, "</ul>"])
     data = {"live": False, "items": items, "first": rules.simplices.index(chosen), "about": "Lit: the tuples that the chosen inputs allow.",
             "lines": []}
     return words, data
+
+
+def tuple_by_names(values: Sequence[int], names: Names) -> str:
+    """A tuple as a list has it: by numbers with spaces, or by names in brackets."""
+    if not names.values:
+        return " ".join(map(str, values))
+    return f"({', '.join(map(names.value, values))})"
 
 
 def of_weights(made: Complex, weights: Weights, text: str) -> Side:
@@ -116,8 +123,8 @@ def of_weights(made: Complex, weights: Weights, text: str) -> Side:
     numbers = {it: number for number, it in enumerate(made.rules.simplices)}
     groups: Dict[Any, List[str]] = {}
     for (simplex, values), weight in weights.tuples.items():
-        groups.setdefault((simplex, weight), []).append(" ".join(map(str, values)))
-    entries = [f"<li><span>{escape(simplex_text(simplex))}, weight {weight}</span><div>{escape(', '.join(told))}</div></li>"
+        groups.setdefault((simplex, weight), []).append(tuple_by_names(values, made.rules.names))
+    entries = [f"<li><span>{escape(simplex_text(simplex, made.rules.names))}, weight {weight}</span><div>{escape(', '.join(told))}</div></li>"
                for (simplex, weight), told in groups.items()]
     words = ["<p>Each point has any value. An execution counts with its sign and the weight of its tuple.</p>",
              '<div class="tools"><button type="button" id="draw">Other values</button>',

@@ -5,7 +5,7 @@ import json
 from typing import Any, Dict, FrozenSet, Iterable, List, NamedTuple, Optional, Sequence, Tuple
 
 from ..names import Names
-from ..tasks import Simplex, Task
+from ..tasks import Simplex, Task, facets
 
 # the number of the block of each participant
 Word = Tuple[int, ...]
@@ -52,10 +52,10 @@ def rules_of(task: Task) -> Rules:
     """What the text of a task says. The text has to be that of a task, as the program accepts it."""
     whole: Dict[str, Any] = json.loads(task.text)
     listed = task.simplices()
-    facets = [it for it in listed if not any(set(it) < set(other) for other in listed)]
+    whole_facets = facets(listed)
     allowed = {simplex_of(it["in"]): sorted({tuple(each) for each in it["out"]}) for it in whole["delta"]}
     values = sorted({value for each in whole["outputs"] for _, value in each})
-    return Rules(whole["processes"], whole["symmetric"], whole.get("first_block", 1), listed, facets, allowed, values, task.names)
+    return Rules(whole["processes"], whole["symmetric"], whole.get("first_block", 1), listed, whole_facets, allowed, values, task.names)
 
 
 def simplex_of(listed: Sequence[Sequence[int]]) -> Simplex:

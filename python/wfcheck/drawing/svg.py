@@ -1,4 +1,5 @@
 """A scene as SVG: the same bytes each time, text as text, and a title at each point and execution."""
+import re
 from typing import List, Tuple
 from xml.sax.saxutils import escape, quoteattr
 
@@ -29,6 +30,10 @@ TOP, ROW, PAD = 64.0, 21.0, 24.0
 LEAST_WIDTH = 430.0
 
 
+# what XML has no letter for: names of files and of values may have it
+NO_XML = "[\x00-\x08\x0b\x0c\x0e-\x1f\x7f-\x9f\ud800-\udfff\ufffe\uffff]"
+
+
 def svg(scene: Scene, paged: bool = False, live: bool = False) -> str:
     """The scene as the text of an SVG file. On a page it has rings that a script may light, and a live one has all that may be shown."""
     legend, bottom = legend_of(scene, live)
@@ -51,7 +56,12 @@ def svg(scene: Scene, paged: bool = False, live: bool = False) -> str:
         "</g>",
         f'<g transform="translate({short(PAD)} {short(TOP + scene.size[1])})">', *legend, "</g>", "</svg>", "",
     ]
-    return "\n".join(parts)
+    return letters("\n".join(parts))
+
+
+def letters(text: str) -> str:
+    """A text in which `_` stands for what XML has no letter for."""
+    return re.sub(NO_XML, "_", text)
 
 
 def text_width(text: str) -> float:

@@ -1,5 +1,6 @@
 """What rules may ask of a view, and what they may say is decided."""
-from typing import Any, Callable, Iterator, List, NamedTuple, Sequence
+import itertools
+from typing import Any, Callable, Iterator, List, NamedTuple, Sequence, Set, Tuple
 
 from ..names import Names
 from .facts import Facts
@@ -120,8 +121,9 @@ def of_inputs_before(about: About) -> Iterator[Test]:
         yield asked(f"no other {told}", lambda it, at: all(len(each) > 1 for each in it.others_knew(at)), at)
 
 
-def outcomes(about: About) -> List[Outcome]:
-    """All that may be said to be decided, the simple first: with names of values none but these."""
+def outcomes(about: About, points: Sequence[Facts], values: Sequence[int]) -> List[Outcome]:
+    """All that may be said to be decided, the simple first: with names of values none but these. Of multiples of something and a number those
+    alone that are decided where it differs at two points: one that fits where it is the same is no simpler than a value."""
     found = [constant(about.names.value(value), value) for value in about.values]
     if about.names.values:
         return found
@@ -133,8 +135,20 @@ def outcomes(about: About) -> List[Outcome]:
              *(rank_in(at) for at in range(about.rounds) if about.rounds > 1)]
     mores = range(-most, most + 1)
     found += inputs + ranks
-    found += [scaled(it, factor, more) for it in inputs for factor in range(1, most + 1) for more in mores if (factor, more) != (1, 0)]
-    return found + [scaled(it, factor, more) for it in ranks for factor in (1, -1) for more in mores if (factor, more) != (1, 0)]
+    for it, factors in [*((it, range(1, most + 1)) for it in inputs), *((it, (1, -1)) for it in ranks)]:
+        lines = lines_through({(it.value(each), value) for each, value in zip(points, values)})
+        found += [scaled(it, factor, more) for factor in factors for more in mores if (factor, more) in lines and (factor, more) != (1, 0)]
+    return found
+
+
+def lines_through(pairs: Set[Tuple[int, int]]) -> Set[Tuple[int, int]]:
+    """The whole factors and numbers of the lines on which two pairs lie that differ in the first."""
+    found = set()
+    for (base, value), (other, that) in itertools.combinations(pairs, 2):
+        if base != other and (value - that) % (base - other) == 0:
+            factor = (value - that) // (base - other)
+            found.add((factor, value - factor * base))
+    return found
 
 
 def constant(words: str, value: int) -> Outcome:
