@@ -5,8 +5,8 @@ use Rattle.wf_model.specs.Box.{count}
 use Rattle.wf_base.specs.Set.Sets.{box_of, values_in}
 use Rattle.wf_box.proofs.BulkLemmas.{IsLeft, bulk_fewer, bulk_is_named, bulk_none, bulk_step}
 use Rattle.wf_box.proofs.TakingLemmas.{no_value, some_value}
-use Rattle.wf_box.proofs.taking.take_each.Given.{Over}
-use Rattle.wf_box.proofs.taking.remove_each.Goals.{After-meet-gone}
+use Rattle.wf_box.proofs.taking.remove_each.Given.{Over}
+use Rattle.wf_box.proofs.taking.remove_each.Goals.{After-intersection-gone}
 use Rattle.wf_box.proofs.taking.remove_each.Goals as goal
 
 -- what is left of the point's set

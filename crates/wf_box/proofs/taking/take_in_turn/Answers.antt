@@ -10,7 +10,7 @@ use Rattle.std.specs.List.{slice_set}
 use Rattle.wf_model.specs.Box.{count}
 use Rattle.wf_box.proofs.TakingLemmas.{set_then}
 use Rattle.wf_box.proofs.NameLemmas.{named_then}
-use Rattle.wf_box.proofs.taking.take_in_turn.Goals.{else-contains-via-then-contains+else-take_out, else-holds-via-else-holds}
+use Rattle.wf_box.proofs.taking.take_in_turn.Goals.{else-contains-via-then-contains+else-take_out, else-contains-via-else-contains}
 use Rattle.wf_box.proofs.taking.take_in_turn.Goals as goal
 
 pub returns-then-take_out-clause-named : goal.returns-then-take_out-clause-named

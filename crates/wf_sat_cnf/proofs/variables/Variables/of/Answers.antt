@@ -6,7 +6,7 @@ use Rattle.wf_base.specs.Set.Sets.{values_in}
 use Rattle.wf_sat_formula.specs.Encoding.{rank_in}
 use Rattle.wf_sat_cnf.proofs.TextLemmas.{few_ranks, next_rank, rank_of_none, ranks_more, rank_there}
 use Rattle.wf_sat_cnf.proofs.variables.Variables.of.Goals as goal
-use Rattle.wf_sat_cnf.proofs.variables.Variables.of.Goals.{then-holds, else-holds}
+use Rattle.wf_sat_cnf.proofs.variables.Variables.of.Goals.{then-contains, else-contains}
 
 pub loop-value-init : goal.loop-value-init
 loop-value-init c = (c.new-ranks.ensures.items, rank_of_none c.args.values)
