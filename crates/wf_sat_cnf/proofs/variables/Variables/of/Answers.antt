@@ -22,11 +22,11 @@ loop-value-preserved c =
     let told : c.contains.result ≡ has values v = c.contains.ensures in (
       ranks_more (rank_in values) v c.loop-value.ranks.items c.push.new.self.items c.loop-value.smaller c.in_ok-push.ensures.items c.loop-value.invariant.1 c.loop-value.invariant.0,
       elim c.if-contains.branch [
-        | then-holds w ↦
+        | then-contains w ↦
             let yes' : has values v ≡ true = sym told ∙ w.if-contains.true in
             let step : rank_in values (v + 1) ≡ rank_in values v + 1 = next ∙ ap (λ b. rank_in values v + cond b 1 0) yes' in
             omega (arith, w.smaller-is, step, c.loop-value.invariant.1)
-        | else-holds w ↦
+        | else-contains w ↦
             let no' : has values v ≡ false = sym told ∙ w.if-contains.false in
             let step : rank_in values (v + 1) ≡ rank_in values v + 0 = next ∙ ap (λ b. rank_in values v + cond b 1 0) no' in
             omega (arith, w.smaller-is, step, c.loop-value.invariant.1)
