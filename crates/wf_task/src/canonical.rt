@@ -70,7 +70,7 @@ fn boundary_faces(alloc: Global, simplices: &[Simplex]) -> Result<Vec<Simplex>, 
     Ok(borders)
 }
 
-/// Appends to `boundary_faces` the faces of `simplex` that have exactly one vertex less. A single
+/// Appends to `borders` the faces of `simplex` that have exactly one vertex less. A single
 /// vertex has none.
 fn add_borders(borders: &mut Vec<Simplex>, simplex: &Simplex) -> Result<(), AllocError>
     ensures { OnOk result (borders.new.items ≡ borders.old.items ++ borders_of simplex.now) }

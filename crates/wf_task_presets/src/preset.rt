@@ -242,7 +242,7 @@ fn add_images(images: &mut Vec<Simplex>, simplex: &Simplex, rows: &[Row]) -> Res
     Ok(())
 }
 
-/// Returns all simplices that have the processes of `all_processes` and any of `values` at each.
+/// Returns all simplices that have the processes of `whole` and any of `values` at each.
 fn all_assignments(
     alloc: Global,
     whole: &Simplex,

@@ -12,7 +12,7 @@ const DIGITS: u64 = 2048;
 /// The largest number of digits that may follow another one in a list.
 const MAX_FOLLOWERS: u8 = 3;
 
-/// Returns the number of bits of `elements_after` digits, at most three.
+/// Returns the number of bits of `behind` digits, at most three.
 fn bits(behind: u8) -> u8
     ensures { result ≤ 33 }
 {
@@ -24,12 +24,12 @@ pub(crate) fn with_last(list: u64, number: u64) -> u64 {
     (list << DIGIT_BITS) | number
 }
 
-/// Returns the element of `list` that is followed by `elements_after` others.
+/// Returns the element of `list` that is followed by `behind` others.
 pub(crate) fn number_at(list: u64, behind: u8) -> u64 {
     (list >> bits(behind)) % DIGITS
 }
 
-/// Removes from `list` the element that is followed by `elements_after` others.
+/// Removes from `list` the element that is followed by `behind` others.
 pub(crate) fn without(list: u64, behind: u8) -> u64 {
     let bits = bits(behind);
     let rest = list & !(u64::MAX << bits);

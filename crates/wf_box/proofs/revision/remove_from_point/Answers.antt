@@ -10,7 +10,7 @@ use Rattle.wf_box.specs.Changes.{IsGrown, IsTracked}
 use Rattle.wf_box.proofs.QuietLemmas.{marked_user}
 use Rattle.wf_box.proofs.ChangeLemmas.{grown_none, grown_one, less_from, same_again}
 use Rattle.wf_box.proofs.WorkLemmas.{ends_if}
-use Rattle.wf_box.proofs.revision.take_place.Given.{Over}
+use Rattle.wf_box.proofs.revision.remove_from_point.Given.{Over}
 use Rattle.wf_box.proofs.revision.remove_from_point.Goals as goal
 
 -- sets that a test finds different

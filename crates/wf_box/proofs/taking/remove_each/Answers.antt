@@ -5,16 +5,16 @@ use Rattle.wf_model.specs.Box.{count}
 use Rattle.wf_base.specs.Set.Sets.{box_of, values_in}
 use Rattle.wf_box.proofs.BulkLemmas.{IsLeft, bulk_fewer, bulk_is_named, bulk_none, bulk_step}
 use Rattle.wf_box.proofs.TakingLemmas.{no_value, some_value}
-use Rattle.wf_box.proofs.taking.take_each.Given.{Over}
-use Rattle.wf_box.proofs.taking.remove_each.Goals.{After-meet-gone}
+use Rattle.wf_box.proofs.taking.remove_each.Given.{Over}
+use Rattle.wf_box.proofs.taking.remove_each.Goals.{After-intersection-gone}
 use Rattle.wf_box.proofs.taking.remove_each.Goals as goal
 
 -- what is left of the point's set
-left_is : (g : Over) (c : After-meet-gone g) → IsLeft c.difference-left.result (g.V.ValueSet.wide c.args.values) (get_or c.args.sets.now c.args.at.point [])
+left_is : (g : Over) (c : After-intersection-gone g) → IsLeft c.difference-left.result (g.V.ValueSet.wide c.args.values) (get_or c.args.sets.now c.args.at.point [])
 left_is g c = subst (λ ws. IsLeft c.difference-left.result ws (get_or c.args.sets.now c.args.at.point [])) c.widened.ensures c.difference-left.ensures
 
 -- a candidate less for each value that is gone
-fewer : (g : Over) (c : After-meet-gone g) → count (box_of (slice_set c.args.sets.now c.args.at.point c.difference-left.result)) + length (values_in (g.V.ValueSet.wide c.intersection-gone.result)) ≤ count (box_of c.args.sets.now)
+fewer : (g : Over) (c : After-intersection-gone g) → count (box_of (slice_set c.args.sets.now c.args.at.point c.difference-left.result)) + length (values_in (g.V.ValueSet.wide c.intersection-gone.result)) ≤ count (box_of c.args.sets.now)
 fewer g c = bulk_fewer c.args.sets.now c.args.at.point c.difference-left.result (g.V.ValueSet.wide c.intersection-gone.result) (g.V.ValueSet.wide c.args.values) (get_or c.args.sets.now c.args.at.point []) c.requires.point refl (left_is g c) c.intersection-gone.ensures
 
 pub push_lines-requires : goal.push_lines-requires

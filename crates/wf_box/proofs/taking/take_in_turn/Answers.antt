@@ -10,7 +10,7 @@ use Rattle.std.specs.List.{slice_set}
 use Rattle.wf_model.specs.Box.{count}
 use Rattle.wf_box.proofs.TakingLemmas.{set_then}
 use Rattle.wf_box.proofs.NameLemmas.{named_then}
-use Rattle.wf_box.proofs.taking.take_in_turn.Goals.{else-contains-via-then-contains+else-take_out, else-holds-via-else-holds}
+use Rattle.wf_box.proofs.taking.take_in_turn.Goals.{else-contains-via-then-contains+else-take_out, else-contains-via-else-contains}
 use Rattle.wf_box.proofs.taking.take_in_turn.Goals as goal
 
 pub returns-then-take_out-clause-named : goal.returns-then-take_out-clause-named
@@ -21,21 +21,21 @@ named_on c p at =
     elim c.else-contains.branch [
       | else-contains-via-then-contains+else-take_out w ↦
           rw (w.sets-is, w.lines-is) (named_then p _ _ _ _ _ _ (c.values.invariant.3 p at) (w.take_out.ensures.named p at))
-      | else-holds-via-else-holds w ↦ rw (w.sets-is, w.lines-is) (c.values.invariant.3 p at)
+      | else-contains-via-else-contains w ↦ rw (w.sets-is, w.lines-is) (c.values.invariant.3 p at)
     ]
 
 others_on : (c : goal.Joined-else-contains) → c.else-contains.sets ≡ slice_set c.args.sets.now c.args.at.point (get_or c.else-contains.sets c.args.at.point [])
 others_on c =
     elim c.else-contains.branch [
       | else-contains-via-then-contains+else-take_out w ↦ rw w.sets-is (set_then c.args.sets.now c.values.sets w.take_out.new.sets c.args.at.point c.values.invariant.5 w.take_out.ensures.others)
-      | else-holds-via-else-holds w ↦ rw w.sets-is c.values.invariant.5
+      | else-contains-via-else-contains w ↦ rw w.sets-is c.values.invariant.5
     ]
 
 fewer_on : (c : goal.Joined-else-contains) → count (box_of c.else-contains.sets) ≤ count (box_of c.args.sets.now)
 fewer_on c =
     elim c.else-contains.branch [
       | else-contains-via-then-contains+else-take_out w ↦ rw w.sets-is (omega (arith, c.values.invariant.6, w.take_out.ensures.fewer))
-      | else-holds-via-else-holds w ↦ rw w.sets-is c.values.invariant.6
+      | else-contains-via-else-contains w ↦ rw w.sets-is c.values.invariant.6
     ]
 
 same_on : (c : goal.Joined-else-contains) → count (box_of c.else-contains.sets) ≡ count (box_of c.args.sets.now) → c.else-contains.sets ≡ c.args.sets.now
@@ -43,7 +43,7 @@ same_on c =
     elim c.else-contains.branch [
       | else-contains-via-then-contains+else-take_out w ↦
           rw w.sets-is (λ is. w.take_out.ensures.same (omega (arith, c.values.invariant.6, w.take_out.ensures.fewer, is)) ∙ c.values.invariant.7 (omega (arith, c.values.invariant.6, w.take_out.ensures.fewer, is)))
-      | else-holds-via-else-holds w ↦ rw w.sets-is c.values.invariant.7
+      | else-contains-via-else-contains w ↦ rw w.sets-is c.values.invariant.7
     ]
 
 pub returns-then-take_out-clause-others : goal.returns-then-take_out-clause-others

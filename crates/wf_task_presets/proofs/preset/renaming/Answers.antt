@@ -19,7 +19,7 @@ returns-then-is_none c =
     let processes = sym c.has_processes.ensures ∙ c.if-not-has_processes.false in
     let values = sym c.has_values.ensures ∙ c.if-not-has_values.false in
     let named = named-bounds n names processes values in
-    let counted = c.in_ok-count.ensures ∙ ap (λ s. at_most 65536 (length (tuples_for (Naming names) s))) c.all_processes-all_processes.ensures in
+    let counted = c.in_ok-count.ensures ∙ ap (λ s. at_most 65536 (length (tuples_for (Naming names) s))) c.all_processes-whole.ensures in
     renaming-judged n names processes values
     ∙ renaming-outputs-refused n names named (counted_more c.in_ok-count.field-0 65536 (length (tuples_for (Naming names) (start n))) counted c.if-is_none.ensures)
 
@@ -30,9 +30,9 @@ returns-then-branch c =
     let processes = sym c.has_processes.ensures ∙ c.if-not-has_processes.false in
     let values = sym c.has_values.ensures ∙ c.if-not-has_values.false in
     let named = named-bounds n names processes values in
-    let counted = c.in_ok-count.ensures ∙ ap (λ s. at_most 65536 (length (tuples_for (Naming names) s))) c.all_processes-all_processes.ensures in
+    let counted = c.in_ok-count.ensures ∙ ap (λ s. at_most 65536 (length (tuples_for (Naming names) s))) c.all_processes-whole.ensures in
     let few = counted_few c.in_ok-count.field-0 65536 (length (tuples_for (Naming names) (start n))) counted c.if-is_none.ensures in
-    let made = c.in_ok-complex.ensures ∙ ap (λ s. complex_of (s ∷ [])) c.all_processes-all_processes.ensures in
+    let made = c.in_ok-complex.ensures ∙ ap (λ s. complex_of (s ∷ [])) c.all_processes-whole.ensures in
     let all = sym (c.in_ok-has_more_tuples.ensures ∙ ap (λ complex. nat_lt 65536 (sum_by (λ s. length (tuples_for (Naming names) s)) complex)) c.simplices.ensures.simplices) ∙ c.if-branch.true in
     renaming-judged n names processes values ∙ renaming-refused n names named c.in_ok-complex.complex made few all
 
@@ -43,7 +43,7 @@ task_for-requires-clause-task c =
     let processes = sym c.has_processes.ensures ∙ c.if-not-has_processes.false in
     let values = sym c.has_values.ensures ∙ c.if-not-has_values.false in
     let named = named-bounds n names processes values in
-    let made = c.in_ok-complex.ensures ∙ ap (λ s. complex_of (s ∷ [])) c.all_processes-all_processes.ensures in
+    let made = c.in_ok-complex.ensures ∙ ap (λ s. complex_of (s ∷ [])) c.all_processes-whole.ensures in
     let all = sym (c.in_ok-has_more_tuples.ensures ∙ ap (λ complex. nat_lt 65536 (sum_by (λ s. length (tuples_for (Naming names) s)) complex)) c.simplices.ensures.simplices) ∙ c.if-branch.false in
     renaming-is-task n names named c.in_ok-complex.complex made all
 
@@ -54,9 +54,9 @@ task_for-requires-clause-few c =
     let processes = sym c.has_processes.ensures ∙ c.if-not-has_processes.false in
     let values = sym c.has_values.ensures ∙ c.if-not-has_values.false in
     let named = named-bounds n names processes values in
-    let counted = c.in_ok-count.ensures ∙ ap (λ s. at_most 65536 (length (tuples_for (Naming names) s))) c.all_processes-all_processes.ensures in
+    let counted = c.in_ok-count.ensures ∙ ap (λ s. at_most 65536 (length (tuples_for (Naming names) s))) c.all_processes-whole.ensures in
     let few = counted_few c.in_ok-count.field-0 65536 (length (tuples_for (Naming names) (start n))) counted c.if-is_none.ensures in
-    let made = c.in_ok-complex.ensures ∙ ap (λ s. complex_of (s ∷ [])) c.all_processes-all_processes.ensures in
+    let made = c.in_ok-complex.ensures ∙ ap (λ s. complex_of (s ∷ [])) c.all_processes-whole.ensures in
     renaming-few n names named c.in_ok-complex.complex made few
 
 pub returns : goal.returns
@@ -66,8 +66,8 @@ returns c =
     let processes = sym c.has_processes.ensures ∙ c.if-not-has_processes.false in
     let values = sym c.has_values.ensures ∙ c.if-not-has_values.false in
     let named = named-bounds n names processes values in
-    let counted = c.in_ok-count.ensures ∙ ap (λ s. at_most 65536 (length (tuples_for (Naming names) s))) c.all_processes-all_processes.ensures in
+    let counted = c.in_ok-count.ensures ∙ ap (λ s. at_most 65536 (length (tuples_for (Naming names) s))) c.all_processes-whole.ensures in
     let few = counted_few c.in_ok-count.field-0 65536 (length (tuples_for (Naming names) (start n))) counted c.if-is_none.ensures in
-    let made = c.in_ok-complex.ensures ∙ ap (λ s. complex_of (s ∷ [])) c.all_processes-all_processes.ensures in
+    let made = c.in_ok-complex.ensures ∙ ap (λ s. complex_of (s ∷ [])) c.all_processes-whole.ensures in
     let all = sym (c.in_ok-has_more_tuples.ensures ∙ ap (λ complex. nat_lt 65536 (sum_by (λ s. length (tuples_for (Naming names) s)) complex)) c.simplices.ensures.simplices) ∙ c.if-branch.false in
     renaming-judged n names processes values ∙ renaming-made n names named c.in_ok-complex.complex made few all ∙ ap Ok (sym c.in_ok-task_for.ensures)

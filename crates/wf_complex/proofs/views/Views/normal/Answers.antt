@@ -8,9 +8,9 @@ use Rattle.wf_complex.proofs.ViewsOnce.{apart_in_table}
 use Rattle.wf_complex.proofs.ViewsWithin.{apart_by_place}
 use Rattle.wf_complex.proofs.Ranked.{IsRenaming, normal_at, renaming_none, renaming_more, renaming_all, all_there, this_there, room_left, parts_known, grows, itself_known}
 use Rattle.wf_complex.proofs.views.Views.normal.Goals as goal
-use Rattle.wf_complex.proofs.views.Views.normal.Goals.{Then-are_lowest}
+use Rattle.wf_complex.proofs.views.Views.normal.Goals.{Then-has_no_gap}
 
-normal_already : (c : Then-are_lowest) → (c.args.id ≡ number_of c.args.self.now (normal (view_at c.args.self.now c.args.id))) × (slice_get c.args.self.now c.args.id ≡ Some (normal (view_at c.args.self.now c.args.id)))
+normal_already : (c : Then-has_no_gap) → (c.args.id ≡ number_of c.args.self.now (normal (view_at c.args.self.now c.args.id))) × (slice_get c.args.self.now c.args.id ≡ Some (normal (view_at c.args.self.now c.args.id)))
 normal_already c =
     let vs = c.args.self.now in
     normal_at vs c.args.id (apart_by_place vs (apart_in_table c.self.inside.nodes.keys c.self.invariant.entries c.self.invariant.once vs c.self.view_is)) c.requires.id

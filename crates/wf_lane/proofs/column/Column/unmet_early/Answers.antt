@@ -14,10 +14,10 @@ values-preserved c =
     let unmet = part_values c.values.unmet in
     let taken = filter (λ x. not (x == c.in-Some.value)) unmet in
     let split = c.in-Some.ensures.split in
-    let kept : part_values c.without_met-unsupported.result ≡ cond (met c.in-Some.value) taken unmet =
-    c.without_met-unsupported.ensures ∙ ap (λ r. cond (not (bit_and c.args.live r == 0)) taken unmet) c.early_with.ensures in
+    let kept : part_values c.without_met-unmet.result ≡ cond (met c.in-Some.value) taken unmet =
+    c.without_met-unmet.ensures ∙ ap (λ r. cond (not (bit_and c.args.live r == 0)) taken unmet) c.early_with.ensures in
     record {
-      rest = λ v. unmet_step met c.values.unmet c.without_met-unsupported.result c.values.left c.in-Some.value c.in-Some.others v split kept ∙ c.values.invariant.rest v;
+      rest = λ v. unmet_step met c.values.unmet c.without_met-unmet.result c.values.left c.in-Some.value c.in-Some.others v split kept ∙ c.values.invariant.rest v;
       occur = later_occur c.args.self.now c.values.left c.in-Some.value c.in-Some.others split c.values.invariant.occur;
     }
 

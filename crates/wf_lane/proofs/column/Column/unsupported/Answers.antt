@@ -14,11 +14,11 @@ pub values-preserved : goal.values-preserved
 values-preserved c =
     let unmet = part_values c.values.unmet in
     let split = c.in-Some.ensures.split in
-    let kept : part_values c.without_met-unsupported.result ≡ cond (is_met c.args.live c.args.self.now.words.items c.args.start c.in-Some.value) (filter (λ x. not (x == c.in-Some.value)) unmet) unmet =
-    c.without_met-unsupported.ensures
+    let kept : part_values c.without_met-unmet.result ≡ cond (is_met c.args.live c.args.self.now.words.items c.args.start c.in-Some.value) (filter (λ x. not (x == c.in-Some.value)) unmet) unmet =
+    c.without_met-unmet.ensures
     ∙ ap (λ b. cond b (filter (λ x. not (x == c.in-Some.value)) unmet) unmet) (c.has_some.ensures ∙ ap (λ r. not (ors (zip2 bit_and c.args.live r) == 0)) c.rows_with.ensures) in
     record {
-      rest = λ v. unmet_step (is_met c.args.live c.args.self.now.words.items c.args.start) c.values.unmet c.without_met-unsupported.result c.values.left c.in-Some.value c.in-Some.others v split kept ∙ c.values.invariant.rest v;
+      rest = λ v. unmet_step (is_met c.args.live c.args.self.now.words.items c.args.start) c.values.unmet c.without_met-unmet.result c.values.left c.in-Some.value c.in-Some.others v split kept ∙ c.values.invariant.rest v;
       occur = later_occur c.args.self.now c.values.left c.in-Some.value c.in-Some.others split c.values.invariant.occur;
     }
 

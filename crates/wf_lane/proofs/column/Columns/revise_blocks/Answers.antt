@@ -40,7 +40,7 @@ loop-block-preserved k =
     let live = k.live_rows-live.result in
     let lanes = k.live_rows-live.ensures in
     let inv = k.loop-block.invariant in
-    let left = k.unsupported-unsupported.ensures in
+    let left = k.unsupported-unmet.ensures in
     record {
       first = unmet_more wanted (λ r. r.first) rows c.first.words.items _ _ (slice_index wanted 0) live block (firsts c cut) lanes inv.first left.first;
       second = unmet_more wanted (λ r. r.second) rows c.second.words.items _ _ (slice_index wanted 1) live block (seconds c cut) lanes inv.second left.second;

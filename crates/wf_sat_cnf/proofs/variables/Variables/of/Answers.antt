@@ -6,7 +6,7 @@ use Rattle.wf_base.specs.Set.Sets.{values_in}
 use Rattle.wf_sat_formula.specs.Encoding.{rank_in}
 use Rattle.wf_sat_cnf.proofs.TextLemmas.{few_ranks, next_rank, rank_of_none, ranks_more, rank_there}
 use Rattle.wf_sat_cnf.proofs.variables.Variables.of.Goals as goal
-use Rattle.wf_sat_cnf.proofs.variables.Variables.of.Goals.{then-holds, else-holds}
+use Rattle.wf_sat_cnf.proofs.variables.Variables.of.Goals.{then-contains, else-contains}
 
 pub loop-value-init : goal.loop-value-init
 loop-value-init c = (c.new-ranks.ensures.items, rank_of_none c.args.values)
@@ -22,11 +22,11 @@ loop-value-preserved c =
     let told : c.contains.result ≡ has values v = c.contains.ensures in (
       ranks_more (rank_in values) v c.loop-value.ranks.items c.push.new.self.items c.loop-value.smaller c.in_ok-push.ensures.items c.loop-value.invariant.1 c.loop-value.invariant.0,
       elim c.if-contains.branch [
-        | then-holds w ↦
+        | then-contains w ↦
             let yes' : has values v ≡ true = sym told ∙ w.if-contains.true in
             let step : rank_in values (v + 1) ≡ rank_in values v + 1 = next ∙ ap (λ b. rank_in values v + cond b 1 0) yes' in
             omega (arith, w.smaller-is, step, c.loop-value.invariant.1)
-        | else-holds w ↦
+        | else-contains w ↦
             let no' : has values v ≡ false = sym told ∙ w.if-contains.false in
             let step : rank_in values (v + 1) ≡ rank_in values v + 0 = next ∙ ap (λ b. rank_in values v + cond b 1 0) no' in
             omega (arith, w.smaller-is, step, c.loop-value.invariant.1)
