@@ -48,8 +48,8 @@ HEAD = """<!-- made by docs/make_commands.py: change that script or the program'
 # Commands
 
 Each command but `preset` reads standard input, and all write standard output. [FORMAT.md](FORMAT.md) describes the
-texts, and [ANSWERS.md](ANSWERS.md) says what they mean. The examples run at the top of the repository, with `bin/` or
-`release/` on the path; `map.txt` is what the first wrote.
+texts, and [ANSWERS.md](ANSWERS.md) says what they mean. The examples run where `make install` leaves the tasks,
+in `~/.local/share/wfcheck`; `map.txt` is what the first wrote.
 
 """
 SHARED = """
@@ -63,9 +63,12 @@ These commands have no other options; those of `cnf` are `--branch`:
 
 """
 ENDS = """
-`wfcheck --version` writes the program's version, and the identity of the logic that proved it. [Exit
-statuses](../README.md#answers-and-trust) are the same for all commands. The checker alone, [wfverify](#wfverify), is a
-program of its own.
+`wfcheck --version` writes the program's version, and the identity of the logic that proved it. The checker alone,
+[wfverify](#wfverify), is a program of its own.
+
+Exit status 0: found, accepted or written. 1: `solve` shows that there is no map, or `obstruction` found none. 2: a
+[refusal](FORMAT.md#refusals), or a search that gave up. 3: out of memory. 4: a failed read or write. A shell that can't
+open the file behind `<` ends with 1 or 2 too: look for `answer none`.
 """
 
 

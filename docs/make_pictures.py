@@ -3,7 +3,8 @@
 
     docs/make_pictures.py [--program FILE]
 
-The commands run one after another in one shell. `checks/pictures` compares the files with what is made today."""
+The commands run one after another in one shell, which finds the installed commands that they name (DOORS), and vote.py, as README.md has it.
+`checks/pictures` compares the files with what is made today."""
 import os
 import pathlib
 import re
@@ -16,6 +17,8 @@ import common  # noqa: E402
 
 FOLDER = common.ROOT / "docs/pictures"
 COMMAND = re.compile(r"^\$ (.+)$", re.M)
+SCRIPT = re.compile(r"`vote\.py`:\n\n```python\n(.*?)^```$", re.M | re.S)
+DOORS = ["draw", "task"]
 
 
 def commands():
@@ -29,9 +32,13 @@ def made():
         top = pathlib.Path(room)
         (top / "bin").mkdir()
         (top / "bin/wfcheck").symlink_to(common.program())
-        for it in ("gallery", "python", "examples"):
-            (top / it).symlink_to(common.ROOT / it)
-        env = {**os.environ, "PYTHONDONTWRITEBYTECODE": "1", "WFCHECK": str(common.program())}
+        for door in DOORS:
+            command = top / f"bin/wfcheck-{door}"
+            command.write_text(f'#!/bin/sh\nexec "{sys.executable}" -m wfcheck {door} "$@"\n')
+            command.chmod(0o755)
+        (top / "vote.py").write_text(SCRIPT.search((common.ROOT / "README.md").read_text())[1])
+        own = {"PATH": f"{top / 'bin'}:{os.environ['PATH']}", "PYTHONPATH": str(common.ROOT / "python"), "WFCHECK": str(common.program())}
+        env = {**os.environ, **own, "PYTHONDONTWRITEBYTECODE": "1"}
         run = subprocess.run(["sh", "-c", "\n".join(commands())], cwd=top, env=env, capture_output=True, text=True)
         if run.stderr:
             raise SystemExit(f"the commands of docs/pictures/README.md say: {run.stderr.strip()}")

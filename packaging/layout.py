@@ -5,6 +5,7 @@ The installation, the archive and the Debian package all have these files.
 import hashlib
 import pathlib
 import re
+import site
 import subprocess
 import sys
 import typing
@@ -66,7 +67,10 @@ sys.path.insert(0, FOLDER)
 runpy.run_path(os.path.join(FOLDER, "{script}"), run_name="__main__")
 '''
 # what this package may install, by paths below the prefix
-MINE = re.compile(r"bin/wfcheck(-[a-z]+)?|bin/wfverify|share/man/man1/(wfcheck(-[a-z]+)?|wfverify)\.1|share/wfcheck/(?!.*//)[^\n]*[^/\n]")
+MINE = re.compile(r"bin/wfcheck(-[a-z]+)?|bin/wfverify|share/man/man1/(wfcheck(-[a-z]+)?|wfverify)\.1|share/wfcheck/(?!.*//)[^\n]*[^/\n]"
+                  r"|lib/python3\.\d+/(site|dist)-packages/wfcheck\.pth")
+# folders above the file by which Python finds the module
+ABOVE_MODULE = re.compile(r"lib(/python3\.\d+(/(site|dist)-packages)?)?")
 
 
 def is_mine(path):
@@ -79,7 +83,7 @@ def is_mine(path):
 def is_above_mine(folder):
     """Whether a folder below the prefix is one that this package may make."""
     known = {folder_above for it in ["bin/x", "share/man/man1/x", f"{SHARE}/x", *COMPLETIONS.values()] for folder_above in above(it)}
-    return folder == "." or folder in known or is_mine(f"{folder}/x")
+    return folder == "." or folder in known or is_mine(f"{folder}/x") or ABOVE_MODULE.fullmatch(folder) is not None
 
 
 def above(path):
@@ -194,6 +198,15 @@ def files(binaries, provenance):
     if provenance:
         found[f"{SHARE}/{PROVENANCE}"] = File(provenance.encode())
     return dict(sorted(found.items()))
+
+
+def module_path(top):
+    """The file by which Python finds the module below a prefix, by its path there: if Python looks for modules below that prefix."""
+    for folder in [site.getusersitepackages()] * bool(site.ENABLE_USER_SITE) + site.getsitepackages():
+        path = pathlib.Path(folder, "wfcheck.pth")
+        if top in path.parents and is_mine(str(path.relative_to(top))):
+            return {str(path.relative_to(top)): File(f"{top / SHARE / 'python'}\n".encode())}
+    return {}
 
 
 def called(main):
