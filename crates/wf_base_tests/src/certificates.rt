@@ -46,20 +46,14 @@ fn verified<T: Threads + Sync>(
 #[test]
 fn true_reports_are_accepted(rt: HostRuntime) -> Result<(), Fail> {
     let (found, text) = verified(&rt, rt.alloc(), PATH_2, MAP, None);
-    assert_eq!(rt;
-        (found, text.as_slice()),
-        (Ok(Accepted::Map), b"accepted map\n".as_slice())
-    );
+    assert_eq!(rt; found, Ok(Accepted::Map));
+    assert_eq!(rt; text.as_slice(), b"accepted map\n".as_slice());
     let (found, text) = verified(&rt, rt.alloc(), PATH_2, LEAST, None);
-    assert_eq!(rt;
-        (found, text.as_slice()),
-        (Ok(Accepted::Least), b"accepted least\n".as_slice())
-    );
+    assert_eq!(rt; found, Ok(Accepted::Least));
+    assert_eq!(rt; text.as_slice(), b"accepted least\n".as_slice());
     let (found, text) = verified(&rt, rt.alloc(), CONSENSUS_2, NONE, None);
-    assert_eq!(rt;
-        (found, text.as_slice()),
-        (Ok(Accepted::Nothing), b"accepted none\n".as_slice())
-    );
+    assert_eq!(rt; found, Ok(Accepted::Nothing));
+    assert_eq!(rt; text.as_slice(), b"accepted none\n".as_slice());
     Ok(())
 }
 
